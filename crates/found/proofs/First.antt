@@ -1,0 +1,33 @@
+-- Laws of the search for the first: a turn of a loop over a list, its end, and what is found. Assumes nothing.
+use mathlib.Core.Bool.{Bool, true, false, cond}
+use mathlib.Core.List.{List, [], _∷_}
+use mathlib.Core.Path.{_≡_, refl, sym, _∙_}
+use Prim.Native.Nat.{ℕ, suc, _+_, _<_, _≤_}
+use native.Mathlib.Omega.{arith}
+use lib.ListN.{length, getD, drop}
+use Rattle.found.specs.First.{firstFrom, first}
+use Rattle.found.specs.declared.Found.{Found}
+use Rattle.found.specs.declared.Found.the-variants.{At, Nobody}
+
+-- A loop over a list: the first of what is left is R, the answer that is wanted.
+module _ {A : Type 0} (test : A → Bool) (l : List A) (i : ℕ) {R : Found} where
+  pub first-here : {x : A} → drop i l ≡ x ∷ drop (i + 1) l → firstFrom test i (drop i l) ≡ R → test x ≡ true → At i ≡ R
+  first-here h e t = rw (h, t) at e
+
+  pub first-more : {x : A} → drop i l ≡ x ∷ drop (i + 1) l → firstFrom test i (drop i l) ≡ R → test x ≡ false → firstFrom test (i + 1) (drop (i + 1) l) ≡ R
+  first-more h e t = rw (h, t) at e
+
+  pub first-none : drop i l ≡ [] → firstFrom test i (drop i l) ≡ R → Nobody ≡ R
+  first-none h e = rw h at e
+
+pick-bound : (b : Bool) (k i n : ℕ) (r : Found) → (r ≡ At i → i < k + 1 + n) → cond b (At k) r ≡ At i → i < k + suc n
+pick-bound true k i n r f e = let q : k ≡ i = cc in omega arith
+pick-bound false k i n r f e = omega (arith, f e)
+
+from-bound : {A : Type 0} (test : A → Bool) (k i : ℕ) (l : List A) → firstFrom test k l ≡ At i → i < k + length l
+from-bound test k i [] e = let z : _≡_ {A = ℕ} 0 1 = cc in omega arith
+from-bound test k i (a ∷ l) e = pick-bound (test a) k i (length l) (firstFrom test (k + 1) l) (from-bound test (k + 1) i l) e
+
+-- who is found is one of the list
+pub first-bound : {A : Type 0} (test : A → Bool) (i : ℕ) (l : List A) → first test l ≡ At i → i < length l
+first-bound test i l e = omega (arith, from-bound test 0 i l e)

@@ -1,0 +1,47 @@
+-- How a store changes a count. Assumes nothing.
+use mathlib.Core.Bool.{Bool, true, false, cond}
+use mathlib.Core.List.{List, [], _∷_}
+use mathlib.Core.Path.{_≡_, refl, sym, _∙_, ap}
+use Prim.Native.Nat.{ℕ, zero, suc, _+_, _<_}
+use native.Mathlib.Nat.{le-of-suc-le-suc, not-suc-le-zero}
+use native.Mathlib.Omega.{arith}
+use lib.ListN.{length, getD, set}
+use Rattle.laws.specs.Lists.{count, bit}
+
+one-less : (b : Bool) (n : ℕ) → n + bit b ≡ cond b (suc n) n
+one-less true n = omega arith
+one-less false n = omega arith
+
+carry : (b : Bool) (n t k : ℕ) → n + t ≡ k → cond b (suc n) n + t ≡ cond b (suc k) k
+carry true n t k e = omega arith
+carry false n t k e = e
+
+-- a store of what is not counted takes off what stood there, wherever it is (past the end nothing stands, and 0 is not counted)
+pub count-clear : (f : ℕ → Bool) (v : ℕ) → f 0 ≡ false → f v ≡ false → (l : List ℕ) (i : ℕ) → count f (set l i v) + bit (f (getD l i 0)) ≡ count f l
+count-clear f v z h [] i = rw z
+count-clear f v z h (x ∷ l) zero = rw h (one-less (f x) (count f l))
+count-clear f v z h (x ∷ l) (suc i) = carry (f x) (count f (set l i v)) (bit (f (getD l i 0))) (count f l) (count-clear f v z h l i)
+
+-- a store at an index within the list: what it puts there counts, and what stood there no more
+swap : (a b : Bool) (n : ℕ) → cond b (suc n) n + bit a ≡ cond a (suc n) n + bit b
+swap true true n = omega arith
+swap true false n = omega arith
+swap false true n = omega arith
+swap false false n = omega arith
+
+carry-on : (b : Bool) (n k s t : ℕ) → n + s ≡ k + t → cond b (suc n) n + s ≡ cond b (suc k) k + t
+carry-on true n k s t e = omega arith
+carry-on false n k s t e = e
+
+pub count-set : {A : Type 0} (f : A → Bool) (l : List A) (i : ℕ) (v d : A) → i < length l → count f (set l i v) + bit (f (getD l i d)) ≡ count f l + bit (f v)
+count-set f [] i v d h = absurd (not-suc-le-zero h)
+count-set f (x ∷ l) zero v d h = swap (f x) (f v) (count f l)
+count-set f (x ∷ l) (suc i) v d h = carry-on (f x) (count f (set l i v)) (count f l) (bit (f (getD l i d))) (bit (f v)) (count-set f l i v d (le-of-suc-le-suc h))
+
+-- what stands at i is there still after the same is stored anywhere
+pub getD-set-kept : {A : Type 0} (l : List A) (i j : ℕ) (d v : A) → getD l i d ≡ v → getD (set l j v) i d ≡ v
+getD-set-kept [] i j d v e = e
+getD-set-kept (x ∷ l) zero zero d v e = refl
+getD-set-kept (x ∷ l) zero (suc j) d v e = e
+getD-set-kept (x ∷ l) (suc i) zero d v e = e
+getD-set-kept (x ∷ l) (suc i) (suc j) d v e = getD-set-kept l i j d v e

@@ -1,0 +1,6 @@
+pub mod Choice
+pub mod Lists
+pub mod Counts
+pub mod Folds
+pub mod Table
+pub mod Below
