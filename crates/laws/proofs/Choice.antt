@@ -1,7 +1,10 @@
--- Choice by a test, and what `&&` and `||` tell of their parts. Assumes nothing.
+-- Choice by a test, cases of an order and an equation, and what `&&` and `||` tell of their parts. Assumes nothing.
 use mathlib.Core.Bool.{Bool, true, false, cond, _&&_, _||_, true≢false, false≢true}
 use mathlib.Core.Logic.{_⊎_, inl, inr}
 use mathlib.Core.Path.{_≡_, refl}
+use Prim.Native.Nat.{ℕ, _≤_, _<_}
+use lib.Dec.{ltb, eqb}
+use borrow.Author.Tests.{ltb-true, ltb-false, eqb-true, eqb-false}
 
 -- what holds of both answers of a test, each under its own outcome, holds of the one that `cond` picks
 pub cond-both : {A : Type 0} (P : A → Type 0) (b : Bool) (u v : A) → (b ≡ true → P u) → (b ≡ false → P v) → P (cond b u v)
@@ -12,6 +15,21 @@ cond-both P false u v f g = g refl
 pub bool-cases : (b : Bool) → (b ≡ true) ⊎ (b ≡ false)
 bool-cases true = inl refl
 bool-cases false = inr refl
+
+-- below or not, equal or not
+pub below? : (m n : ℕ) → (m < n) ⊎ (n ≤ m)
+below? m n = go (ltb m n) refl
+  where
+    go : (b : Bool) → ltb m n ≡ b → (m < n) ⊎ (n ≤ m)
+    go true e = inl (ltb-true m n e)
+    go false e = inr (ltb-false m n e)
+
+pub same? : (m n : ℕ) → (m ≡ n) ⊎ (m ≡ n → ⊥)
+same? m n = go (eqb m n) refl
+  where
+    go : (b : Bool) → eqb m n ≡ b → (m ≡ n) ⊎ (m ≡ n → ⊥)
+    go true e = inl (eqb-true m n e)
+    go false e = inr (eqb-false m n e)
 
 pub and-both : (a b : Bool) → a ≡ true → b ≡ true → (a && b) ≡ true
 and-both true b e f = f

@@ -2,11 +2,13 @@
 use mathlib.Core.Bool.{Bool, true, false, cond}
 use mathlib.Core.List.{List, [], _∷_}
 use mathlib.Core.Path.{_≡_, refl, sym, _∙_, ap}
-use Prim.Native.Nat.{ℕ, zero, suc, _+_, _<_}
+use Prim.Native.Nat.{ℕ, zero, suc, _+_, _≤_, _<_}
 use native.Mathlib.Nat.{le-of-suc-le-suc, not-suc-le-zero}
 use native.Mathlib.Omega.{arith}
+use borrow.Author.Tests.{eq-eqb, ne-eqb}
+use lib.Dec.{eqb}
 use lib.ListN.{length, getD, set}
-use Rattle.laws.specs.Lists.{count, bit}
+use Rattle.laws.specs.Lists.{count, bit, tally}
 
 one-less : (b : Bool) (n : ℕ) → n + bit b ≡ cond b (suc n) n
 one-less true n = omega arith
@@ -45,3 +47,35 @@ getD-set-kept (x ∷ l) zero zero d v e = refl
 getD-set-kept (x ∷ l) zero (suc j) d v e = e
 getD-set-kept (x ∷ l) (suc i) zero d v e = e
 getD-set-kept (x ∷ l) (suc i) (suc j) d v e = getD-set-kept l i j d v e
+
+-- a count is no more than the length
+count-step : (b : Bool) (m n : ℕ) → m ≤ n → cond b (suc m) m ≤ suc n
+count-step true m n h = omega arith
+count-step false m n h = omega arith
+
+pub count-le : {A : Type 0} (f : A → Bool) (l : List A) → count f l ≤ length l
+count-le f [] = omega arith
+count-le f (x ∷ l) = count-step (f x) (count f l) (length l) (count-le f l)
+
+-- a store over a takes one off a's tally, and one of b over something else adds one to b's
+pub tally-le : (v : ℕ) (l : List ℕ) → tally v l ≤ length l
+unfolding tally
+tally-le v l = count-le (λ x. eqb x v) l
+
+pub tally-lose : (l : List ℕ) (i a b : ℕ) → i < length l → getD l i 0 ≡ a → (b ≡ a → ⊥) → tally a l ≡ suc (tally a (set l i b))
+unfolding tally
+tally-lose l i a b h e n =
+    let q = rw (eq-eqb (getD l i 0) a e, ne-eqb b a n) at (count-set (λ x. eqb x a) l i b 0 h) in
+    omega arith
+
+pub tally-gain : (l : List ℕ) (i b : ℕ) → i < length l → (getD l i 0 ≡ b → ⊥) → tally b (set l i b) ≡ suc (tally b l)
+unfolding tally
+tally-gain l i b h n =
+    let q = rw (ne-eqb (getD l i 0) b n, eq-eqb b b refl) at (count-set (λ x. eqb x b) l i b 0 h) in
+    omega arith
+
+-- a number that is nowhere has no tally
+pub tally-none : (v : ℕ) (l : List ℕ) → ((c : ℕ) → getD l c 0 ≡ v → ⊥) → tally v l ≡ 0
+unfolding tally
+tally-none v [] n = refl
+tally-none v (x ∷ l) n = rw (ne-eqb x v (n 0)) (tally-none v l (λ c e. n (suc c) e))

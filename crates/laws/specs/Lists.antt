@@ -2,6 +2,7 @@
 use mathlib.Core.Bool.{Bool, true, false, cond, _&&_, _||_}
 use mathlib.Core.List.{List, [], _∷_, _++_}
 use Prim.Native.Nat.{ℕ, zero, suc, _+_}
+use lib.Dec.{eqb}
 
 -- 1 for true, 0 for false
 abbrev pub bit : Bool → ℕ
@@ -28,6 +29,10 @@ module _ {A : Type 0} where
   unfoldable pub table : ℕ → (ℕ → A) → List A
   table zero f = []
   table (suc n) f = table n f ++ (f n ∷ [])
+
+-- how many entries are v
+unfoldable pub tally : ℕ → List ℕ → ℕ
+tally v l = count (λ x. eqb x v) l
 
 module _ {S : Type 0} where
   -- the step at i, then at i + 1, and so on: k steps
