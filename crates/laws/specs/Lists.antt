@@ -9,6 +9,11 @@ abbrev pub bit : Bool → ℕ
 bit true = 1
 bit false = 0
 
+-- the test holds of every number below n
+abbrev pub allBelow : ℕ → (ℕ → Bool) → Bool
+allBelow zero p = true
+allBelow (suc n) p = p n && allBelow n p
+
 module _ {A : Type 0} where
   -- the test holds at every element
   abbrev pub all : (A → Bool) → List A → Bool
