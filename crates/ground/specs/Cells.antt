@@ -27,6 +27,10 @@ CB-FILLED = 1
 abbrev pub CB-TRAIL : ℕ
 CB-TRAIL = 2
 
+-- at most 16 creatures
+abbrev pub MAX-ENEMIES : ℕ
+MAX-ENEMIES = 16
+
 -- what a cell of the grid holds; off the grid counts as claimed
 abbrev pub cellAt : List ℕ → ℕ → ℕ
 cellAt g c = getD g c CB-FILLED

@@ -16,6 +16,9 @@ pub const CB_FILLED: u8 = 1;
 
 pub const CB_TRAIL: u8 = 2;
 
+// At most so many creatures.
+pub const MAX_ENEMIES: usize = 16;
+
 #[repr(C)]
 pub struct Mover {
     pub x: u8,
