@@ -1,5 +1,5 @@
 -- Lists from an index on, and the turns of a loop that tests, counts or rewrites each element. Assumes nothing.
-use mathlib.Core.Bool.{Bool, true, false, cond, _&&_, _||_}
+use mathlib.Core.Bool.{Bool, true, false, cond, _&&_, _||_, not}
 use mathlib.Core.List.{List, [], _∷_, _++_, map, append-nil}
 use mathlib.Core.Path.{_≡_, refl, ap, sym, _∙_}
 use Prim.Native.Nat.{ℕ, zero, suc, _+_, _<_, _≤_}
@@ -7,7 +7,7 @@ use native.Mathlib.Nat.{le-of-suc-le-suc, not-suc-le-zero}
 use native.Mathlib.Numerals.{add-one}
 use native.Mathlib.Omega.{arith}
 use lib.ListN.{length, getD, take, drop, set, drop-of-length-le, length-map, length-take}
-use lib.Seq.{drop-cons, getD-take, take-suc-set, drop-set-lt, append-snoc, take-all}
+use lib.Seq.{drop-cons, getD-take, take-suc, take-suc-set, drop-set-lt, append-snoc, take-all}
 use Rattle.laws.specs.Lists.{all, any, count}
 use Rattle.laws.proofs.Choice.{and-left, and-right, and-both}
 
@@ -35,6 +35,14 @@ taken-one n l i d h k =
 pub taken-end : {A : Type 0} (n : ℕ) (l : List A) (i : ℕ) → n ≤ i → drop i (take n l) ≡ []
 taken-end n l i h = drop-of-length-le (take n l) {i = i} (simp length-take (omega arith))
 
+raised : (b o r : Bool) {R : Bool} → (not b && (not o && r)) ≡ R → (not (b || o) && r) ≡ R
+raised true o r e = e
+raised false o r e = e
+
+settled : (b : Bool) {R : Bool} → (not b && true) ≡ R → not b ≡ R
+settled true e = e
+settled false e = e
+
 -- A loop over a list that tests each element. Its invariant: the test over the elements from i on is R, the answer that is wanted.
 module _ {A : Type 0} (f : A → Bool) (l : List A) (i : ℕ) {R : Bool} where
   pub all-more : {x : A} → drop i l ≡ x ∷ drop (i + 1) l → all f (drop i l) ≡ R → f x ≡ true → all f (drop (i + 1) l) ≡ R
@@ -54,6 +62,14 @@ module _ {A : Type 0} (f : A → Bool) (l : List A) (i : ℕ) {R : Bool} where
 
   pub any-end : drop i l ≡ [] → any f (drop i l) ≡ R → false ≡ R
   any-end h e = rw h at e
+
+-- A whole pass over a list that gathers one flag, whether some element fails the test: o is what the element at i adds to b.
+module _ {A : Type 0} (f : A → Bool) (l : List A) (i : ℕ) (b : Bool) {R : Bool} where
+  pub flag-more : {x : A} (o : Bool) → drop i l ≡ x ∷ drop (i + 1) l → (not b && all f (drop i l)) ≡ R → f x ≡ not o → (not (b || o) && all f (drop (i + 1) l)) ≡ R
+  flag-more o h e t = raised b o (all f (drop (i + 1) l)) (rw (h, t) at e)
+
+  pub flag-end : drop i l ≡ [] → (not b && all f (drop i l)) ≡ R → not b ≡ R
+  flag-end h e = settled b (rw h at e)
 
 -- what owning an array of structs tells of its length: `search (needs, mapped)`
 pub mapped : {A B : Type 0} (f : A → B) (l : List A) (n : ℕ) → length (map f l) ≡ n → length l ≡ n
@@ -82,6 +98,14 @@ module _ {A : Type 0} (f : A → A) where
 
   pub map-end : (l : List A) (n : ℕ) {R : List A} → length l ≡ n → take n l ++ map f (drop n l) ≡ R → l ≡ R
   map-end l n h e = sym (append-nil l) ∙ (rw (drop-end l n h, take-all n l (omega arith)) at e)
+
+-- A loop that fills a list from the front with what stands in r.
+module _ {A : Type 0} (l r : List A) where
+  pub fill-more : (i : ℕ) (v d : A) → i < length l → i < length r → take i l ≡ take i r → v ≡ getD r i d → take (i + 1) (set l i v) ≡ take (i + 1) r
+  fill-more i v d h k e q = rw (add-one i, take-suc-set l i v h, take-suc r i d k, e, q)
+
+  pub fill-end : (n : ℕ) → length l ≡ n → length r ≡ n → take n l ≡ take n r → l ≡ r
+  fill-end n a b e = sym (take-all n l (omega arith)) ∙ e ∙ take-all n r (omega arith)
 
 -- what holds of each element holds of the one at i, and still holds of each where another is stored for which it holds
 module _ {A : Type 0} (f : A → Bool) where
