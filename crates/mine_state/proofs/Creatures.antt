@@ -1,0 +1,59 @@
+-- The creatures of a state: a loop that asks whether two stand on one cell, and who is found. Assumes nothing.
+use mathlib.Core.Bool.{Bool, true, false, _&&_}
+use mathlib.Core.List.{List, [], _∷_}
+use mathlib.Core.Path.{_≡_, refl}
+use Prim.Native.Nat.{ℕ, zero, suc, _+_, _<_}
+use native.Mathlib.Omega.{arith}
+use lib.Dec.{eqb, leb}
+use lib.ListN.{drop, take, length-take}
+use borrow.Author.Tests.{eqb-true}
+use Rattle.laws.specs.Lists.{all, any}
+use Rattle.laws.proofs.Choice.{and-left, and-right, and-both}
+use Rattle.found.specs.declared.Found.the-variants.{At}
+use Rattle.found.proofs.First.{first-bound}
+use Rattle.mine_state.specs.declared.Mine.{Mine}
+use Rattle.mine_state.specs.declared.Enemy.{Enemy}
+use Rattle.mine_state.specs.State.{onGrid, codeIn, EMPTY, emptyAt, creatures, standsAt, firstAt}
+use Rattle.mine_state.specs.Spots.{onMap, allOnMap}
+use Rattle.mine_state.specs.WellFormed.{creatureOk, apart, blank}
+
+-- A loop that asks of each creature whether a later one stands on its cell.
+module _ (l : List Enemy) (i : ℕ) {R : Bool} {e : Enemy} (h : drop i l ≡ e ∷ drop (i + 1) l) (q : apart (drop i l) ≡ R) where
+  pub apart-more : any (standsAt (e .x) (e .y)) (drop (i + 1) l) ≡ false → apart (drop (i + 1) l) ≡ R
+  apart-more t = rw (h, t) at q
+
+  pub apart-fails : any (standsAt (e .x) (e .y)) (drop (i + 1) l) ≡ true → false ≡ R
+  apart-fails t = rw (h, t) at q
+
+-- who is found is one of the creatures
+pub found-below : (m : Mine) (x y i : ℕ) → firstAt m x y ≡ At i → i < m .count
+found-below m x y i e =
+    let h = first-bound (standsAt x y) i (creatures m) e in
+    omega (arith, simp length-take at h)
+
+-- a creature that is right is on the map, and so is a slot that holds zeros
+creature-on-map : (g : List ℕ) (e : Enemy) → creatureOk g e ≡ true → onMap e ≡ true
+unfolding emptyAt
+creature-on-map g e h =
+    let on = and-left (emptyAt g (e .x) (e .y)) (leb (e .dir) 3) h in
+    and-both (onGrid (e .x) (e .y)) (leb (e .dir) 3)
+    (and-left (onGrid (e .x) (e .y)) (eqb (codeIn g (e .x) (e .y)) EMPTY) on)
+    (and-right (emptyAt g (e .x) (e .y)) (leb (e .dir) 3) h)
+
+blank-on-map : (e : Enemy) → blank e ≡ true → onMap e ≡ true
+blank-on-map e h =
+    let two = and-left (eqb (e .x) 0 && eqb (e .y) 0) (eqb (e .dir) 0) h in
+    let a = eqb-true (e .x) 0 (and-left (eqb (e .x) 0) (eqb (e .y) 0) two) in
+    let b = eqb-true (e .y) 0 (and-right (eqb (e .x) 0) (eqb (e .y) 0) two) in
+    let d = eqb-true (e .dir) 0 (and-right (eqb (e .x) 0 && eqb (e .y) 0) (eqb (e .dir) 0) h) in
+    rw (a, b, d)
+
+-- so all slots are on the map
+pub slots-on-map : (g : List ℕ) (n : ℕ) (es : List Enemy) → all (creatureOk g) (take n es) ≡ true → all blank (drop n es) ≡ true → allOnMap es ≡ true
+slots-on-map g n [] a b = refl
+slots-on-map g zero (e ∷ es) a b =
+    and-both (onMap e) (allOnMap es) (blank-on-map e (and-left (blank e) (all blank es) b))
+    (slots-on-map g zero es refl (and-right (blank e) (all blank es) b))
+slots-on-map g (suc n) (e ∷ es) a b =
+    and-both (onMap e) (allOnMap es) (creature-on-map g e (and-left (creatureOk g e) (all (creatureOk g) (take n es)) a))
+    (slots-on-map g n es (and-right (creatureOk g e) (all (creatureOk g) (take n es)) a) b)

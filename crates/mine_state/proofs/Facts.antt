@@ -1,0 +1,94 @@
+-- What a state that is not refused tells, part by part, and back. Assumes nothing.
+use mathlib.Core.Bool.{Bool, true, false, _&&_, false≢true}
+use mathlib.Core.Path.{_≡_, refl, sym}
+use native.Mathlib.Omega.{arith}
+use lib.Dec.{leb, eqb}
+use lib.ListN.{length, drop}
+use borrow.Author.Tests.{eqb-true, leb-true, eq-eqb, le-leb}
+use Rattle.laws.specs.Lists.{all}
+use Rattle.laws.proofs.Choice.{and-left, and-right}
+use Rattle.mine_state.specs.declared.Mine.{Mine}
+use Rattle.mine_state.specs.State.{AREA, MAX-ENEMIES, isCode, creatures, purse}
+use Rattle.mine_state.specs.WellFormed.{cellsOk, playerOk, creatureOk, apart, blank, creaturesOk, numbersOk, wellFormed, checked, refusalOf, WellFormed, Sound}
+use Rattle.mine_state.proofs.Cells.{empty-inside}
+use Rattle.mine_state.proofs.Creatures.{slots-on-map}
+
+-- where the arrays have their sizes, the codes decide
+pub cells-ok : (m : Mine) {r : Bool} → length (m .grid) ≡ AREA → length (m .falling) ≡ AREA → r ≡ all isCode (m .grid) → cellsOk m ≡ r
+unfolding cellsOk
+cells-ok m a b e = simp (eq-eqb (length (m .grid)) AREA a, eq-eqb (length (m .falling)) AREA b) (sym e)
+
+-- no number is given where all four checks pass, and only there
+none : (a b c d : Bool) → checked a b c d ≡ 0 → (a && b && c && d) ≡ true
+none true true true true e = refl
+none true true true false e = absurd (let q : ⊥ = omega arith in q)
+none true true false d e = absurd (let q : ⊥ = omega arith in q)
+none true false c d e = absurd (let q : ⊥ = omega arith in q)
+none false true c d e = absurd (let q : ⊥ = omega arith in q)
+none false false c d e = absurd (let q : ⊥ = omega arith in q)
+
+pass : (a b c d : Bool) → (a && b && c && d) ≡ true → checked a b c d ≡ 0
+pass true true true true e = refl
+pass true true true false e = absurd (false≢true e)
+pass true true false d e = absurd (false≢true e)
+pass true false c d e = absurd (false≢true e)
+pass false b c d e = absurd (false≢true e)
+
+pub none-well-formed : (m : Mine) → refusalOf m ≡ 0 → wellFormed m ≡ true
+unfolding refusalOf wellFormed
+none-well-formed m e = none (cellsOk m) (playerOk m) (creaturesOk m) (numbersOk m) e
+
+pub well-formed-none : (m : Mine) → wellFormed m ≡ true → refusalOf m ≡ 0
+unfolding refusalOf wellFormed
+well-formed-none m e = pass (cellsOk m) (playerOk m) (creaturesOk m) (numbersOk m) e
+
+-- the parts of a chain of tests
+three : (a b c : Bool) → (a && b && c) ≡ true → (a ≡ true) × (b ≡ true) × (c ≡ true)
+three a b c e =
+    let l = and-left (a && b) c e in
+    (and-left a b l, and-right a b l, and-right (a && b) c e)
+
+pub facts : (m : Mine) → wellFormed m ≡ true → WellFormed m
+unfolding wellFormed cellsOk creaturesOk numbersOk
+facts m e =
+    let sized = eqb (length (m .enemies)) MAX-ENEMIES && leb (m .count) MAX-ENEMIES in
+    let each = all (creatureOk (m .grid)) (creatures m) in
+    let last = all blank (drop (m .count) (m .enemies)) in
+    let n = and-right (cellsOk m && playerOk m && creaturesOk m) (numbersOk m) e in
+    let t = three (cellsOk m) (playerOk m) (creaturesOk m) (and-left (cellsOk m && playerOk m && creaturesOk m) (numbersOk m) e) in
+    let g = three (eqb (length (m .grid)) AREA) (eqb (length (m .falling)) AREA) (all isCode (m .grid)) (t .0) in
+    let c = three (sized && each) (apart (creatures m)) (last) (t .2) in
+    let s = three (eqb (length (m .enemies)) MAX-ENEMIES) (leb (m .count) MAX-ENEMIES) (each) (c .0) in
+    let k = three (leb (purse m) AREA) (leb 1 (m .needed)) (leb (m .needed) AREA) n in
+    record {
+      cells = eqb-true (length (m .grid)) AREA (g .0);
+      marks = eqb-true (length (m .falling)) AREA (g .1);
+      codes = g .2;
+      player = t .1;
+      slots = eqb-true (length (m .enemies)) MAX-ENEMIES (s .0);
+      few = leb-true (m .count) MAX-ENEMIES (s .1);
+      each = s .2;
+      distinct = c .1;
+      rest = c .2;
+      coins = leb-true (purse m) AREA (k .0);
+      asked = (leb-true 1 (m .needed) (k .1), leb-true (m .needed) AREA (k .2));
+    }
+
+pub from-facts : (m : Mine) → WellFormed m → wellFormed m ≡ true
+unfolding wellFormed cellsOk creaturesOk numbersOk
+from-facts m w =
+    simp
+    (eq-eqb (length (m .grid)) AREA (w .cells), eq-eqb (length (m .falling)) AREA (w .marks), w .codes, w .player, eq-eqb (length (m .enemies)) MAX-ENEMIES (w .slots), le-leb (m .count) MAX-ENEMIES (w .few), w .each, w .distinct, w .rest, le-leb (purse m) AREA (w .coins), le-leb 1 (m .needed) (w .asked .0), le-leb (m .needed) AREA (w .asked .1))
+
+-- what the rules' code needs of a well-formed state
+pub sound : (m : Mine) → WellFormed m → Sound m
+sound m w =
+    record {
+      cells = w .cells;
+      marks = w .marks;
+      slots = w .slots;
+      few = w .few;
+      placed = slots-on-map (m .grid) (m .count) (m .enemies) (w .each) (w .rest);
+      home = empty-inside (m .grid) (m .px) (m .py) (w .player);
+      coins = w .coins;
+    }

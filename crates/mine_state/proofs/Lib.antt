@@ -1,0 +1,4 @@
+pub mod Creatures
+pub mod Cells
+pub mod Places
+pub mod Facts

@@ -1,0 +1,106 @@
+-- Places stand for the creatures: a search among the places finds the creature that a search among the creatures finds. Assumes nothing.
+use mathlib.Core.Bool.{Bool, true, false, _&&_, not}
+use mathlib.Core.List.{List, [], _∷_}
+use mathlib.Core.Path.{_≡_, refl, sym, _∙_, ap}
+use Prim.Native.Nat.{ℕ, zero, suc, _+_, _<_, _≤_, _-_}
+use native.Mathlib.Nat.{le-of-suc-le-suc, not-suc-le-zero}
+use native.Mathlib.Omega.{arith}
+use lib.Dec.{eqb, ltb, leb}
+use lib.ListN.{length, getD, take, set}
+use borrow.Author.Tests.{ne-eqb, ltb-true, ltb-false, lt-ltb, le-ltb, leb-true}
+use Rattle.laws.proofs.Lists.{all-at}
+use Rattle.laws.proofs.Choice.{and-left, and-right}
+use Rattle.found.specs.First.{firstFrom, nobody}
+use Rattle.found.specs.declared.Found.the-variants.{At, Nobody}
+use Rattle.mine_state.specs.declared.Mine.{Mine}
+use Rattle.mine_state.specs.declared.Enemy.{Enemy}
+use Rattle.mine_state.specs.State.{W, H, AREA, place, onGrid, standsAt, firstAt, playerAt, emptyAt, freeAt, blankSlot}
+use Rattle.mine_state.specs.Spots.{onMap, allOnMap, spotOr, spotsFrom, isSpot, firstSpot, freeSpot, Spotted, Stand}
+use Rattle.mine_state.proofs.Cells.{on-grid, same-place, empty-inside}
+use Rattle.mine_state.proofs.Creatures.{found-below}
+
+pub map-inside : (e : Enemy) → onMap e ≡ true → (e .x < W) × (e .y < H)
+map-inside e h = on-grid (e .x) (e .y) (and-left (onGrid (e .x) (e .y)) (leb (e .dir) 3) h)
+
+pub map-dir : (e : Enemy) → onMap e ≡ true → e .dir ≤ 3
+map-dir e h = leb-true (e .dir) 3 (and-right (onGrid (e .x) (e .y)) (leb (e .dir) 3) h)
+
+-- the slot i is on the map
+pub slot-on-map : (es : List Enemy) (i : ℕ) → allOnMap es ≡ true → onMap (getD es i blankSlot) ≡ true
+slot-on-map es i a = all-at onMap es i blankSlot a refl
+
+-- no creature's place is AREA
+off-place : (x y : ℕ) → x < W → y < H → isSpot (place x y) AREA ≡ false
+off-place x y hx hy = ne-eqb AREA (place x y) (λ e. omega arith)
+
+-- the search among places is the search among creatures
+spots-search : (x y : ℕ) → x < W → y < H → (n k : ℕ) (l : List Enemy) → allOnMap l ≡ true → firstFrom (isSpot (place x y)) k (spotsFrom n l) ≡ firstFrom (standsAt x y) k (take n l)
+spots-search x y hx hy n k [] a = take-none n
+  where
+    take-none : (n : ℕ) → Nobody ≡ firstFrom (standsAt x y) k (take n [])
+    take-none zero = refl
+    take-none (suc n) = refl
+spots-search x y hx hy zero k (e ∷ l) a =
+    rw (off-place x y hx hy) (spots-search x y hx hy zero (k + 1) l (and-right (onMap e) (allOnMap l) a))
+spots-search x y hx hy (suc n) k (e ∷ l) a =
+    let b = map-inside e (and-left (onMap e) (allOnMap l) a) .0 in
+    rw (sym (same-place (e .x) (e .y) x y b hx), spots-search x y hx hy n (k + 1) l (and-right (onMap e) (allOnMap l) a))
+
+ltb-step : (i n : ℕ) (t : Bool) → ltb i n ≡ t → ltb (suc i) (suc n) ≡ t
+ltb-step i n true e = let h = ltb-true i n e in lt-ltb (suc i) (suc n) (omega arith)
+ltb-step i n false e = let h = ltb-false i n e in le-ltb (suc i) (suc n) (omega arith)
+
+-- the place that a slot has in the list of places
+pub spot-slot : (n : ℕ) (l : List Enemy) (i : ℕ) → i < length l → getD (spotsFrom n l) i 0 ≡ spotOr (ltb i n) (getD l i blankSlot)
+spot-slot n [] i h = absurd (not-suc-le-zero h)
+spot-slot zero (e ∷ l) zero h = refl
+spot-slot (suc n) (e ∷ l) zero h = rw (lt-ltb 0 (suc n) (omega arith))
+spot-slot zero (e ∷ l) (suc i) h = rw (le-ltb (suc i) 0 (omega arith)) (rw (le-ltb i 0 (omega arith)) at (spot-slot zero l i (le-of-suc-le-suc h)))
+spot-slot (suc n) (e ∷ l) (suc i) h = rw (ltb-step i n (ltb i n) refl) (spot-slot n l i (le-of-suc-le-suc h))
+
+pub length-spots : (n : ℕ) (l : List Enemy) → length (spotsFrom n l) ≡ length l
+length-spots n [] = refl
+length-spots zero (e ∷ l) = ap suc (length-spots zero l)
+length-spots (suc n) (e ∷ l) = ap suc (length-spots n l)
+
+-- a creature laid into a slot, and the last slot given up
+pub spots-set : (n : ℕ) (l : List Enemy) (k : ℕ) (e : Enemy) → k < n → spotsFrom n (set l k e) ≡ set (spotsFrom n l) k (place (e .x) (e .y))
+spots-set n [] k e h = refl
+spots-set zero (d ∷ l) k e h = absurd (not-suc-le-zero h)
+spots-set (suc n) (d ∷ l) zero e h = refl
+spots-set (suc n) (d ∷ l) (suc k) e h = ap (λ (t : List ℕ). place (d .x) (d .y) ∷ t) (spots-set n l k e (le-of-suc-le-suc h))
+
+spots-less : (n : ℕ) (l : List Enemy) (e : Enemy) → spotsFrom n (set l n e) ≡ set (spotsFrom (suc n) l) n AREA
+spots-less n [] e = refl
+spots-less zero (d ∷ l) e = refl
+spots-less (suc n) (d ∷ l) e = ap (λ (t : List ℕ). place (d .x) (d .y) ∷ t) (spots-less n l e)
+
+-- where a creature is squashed, its place goes as it goes: the last takes its place
+pub spots-without : (n : ℕ) (l : List Enemy) (k : ℕ) → k < n → n ≤ length l → spotsFrom (n - 1) (set (set l k (getD l (n - 1) blankSlot)) (n - 1) blankSlot) ≡ set (set (spotsFrom n l) k (getD (spotsFrom n l) (n - 1) 0)) (n - 1) AREA
+spots-without zero l k h b = absurd (not-suc-le-zero h)
+spots-without (suc n) l k h b =
+    let e = getD l n blankSlot in
+    let s : getD (spotsFrom (suc n) l) n 0 ≡ place (e .x) (e .y) = rw (lt-ltb n (suc n) (omega arith)) at (spot-slot (suc n) l n b) in
+    let q : suc n - 1 ≡ n = omega arith in
+    rw (q, spots-less n (set l k e) blankSlot, spots-set (suc n) l k e h, s)
+
+module _ {m : Mine} {spots : List ℕ} (s : Spotted m spots) where
+  pub first-spot : (x y : ℕ) → x < W → y < H → firstSpot (place x y) spots ≡ firstAt m x y
+  first-spot x y hx hy = rw (s .them) (spots-search x y hx hy (m .count) 0 (m .enemies) (s .placed))
+
+  pub spot-below : (x y k : ℕ) → x < W → y < H → firstSpot (place x y) spots ≡ At k → k < m .count
+  spot-below x y k hx hy e = found-below m x y k (sym (first-spot x y hx hy) ∙ e)
+
+module _ {m : Mine} {spots : List ℕ} {player : ℕ} (s : Stand m spots player) where
+  pub player-spot : (x y : ℕ) → x < W → eqb player (place x y) ≡ playerAt m x y
+  player-spot x y hx = rw (s .you) (sym (same-place (m .px) (m .py) x y (s .home) hx))
+
+  pub free-spot : (x y : ℕ) → freeSpot (m .grid) spots player x y ≡ freeAt m x y
+  unfolding freeSpot freeAt
+  free-spot x y = go (emptyAt (m .grid) x y) refl
+    where
+      go : (t : Bool) → emptyAt (m .grid) x y ≡ t → (t && not (eqb player (place x y)) && nobody (firstSpot (place x y) spots)) ≡ (t && not (playerAt m x y) && nobody (firstAt m x y))
+      go true e =
+          let h = empty-inside (m .grid) x y e in
+          rw (player-spot x y (h .0), first-spot (s .spotted) x y (h .0) (h .1))
+      go false e = refl

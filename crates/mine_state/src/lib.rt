@@ -1,0 +1,71 @@
+// Block Mine: the state, who stands where, and the check of a state that a caller hands in.
+mod checks;
+mod spots;
+
+pub use checks::check;
+pub use spots::enemy_at;
+pub use spots::free;
+pub use spots::spots_of;
+ghost use mathlib.Core.Path.{_≡_};
+ghost use Rattle.mine_state.specs.State.{AREA, codeIn, standsAt, CellOf};
+
+// Level dimensions, in tiles.
+pub const W: usize = 24;
+
+pub const H: usize = 14;
+// The cells of the grid; as a place, none of them.
+pub const AREA: usize = W * H;
+
+pub const MAX_ENEMIES: usize = 8;
+
+// Terrain codes.
+pub const EMPTY: u8 = 0;
+
+pub const DIRT: u8 = 1;
+
+pub const WALL: u8 = 2;
+
+pub const BOULDER: u8 = 3;
+
+pub const COIN: u8 = 4;
+
+pub const EXIT: u8 = 5;
+
+// A creature, with the direction it last travelled (0 up, 1 right, 2 down, 3 left).
+#[repr(C)]
+pub struct Enemy {
+    pub x: usize,
+    pub y: usize,
+    pub dir: u8,
+}
+
+#[repr(C)]
+pub struct Mine {
+    pub grid: [u8; AREA],
+    // Whether the object at a cell is mid-fall; only a falling object crushes.
+    pub falling: [bool; AREA],
+    pub px: usize,
+    pub py: usize,
+    pub enemies: [Enemy; MAX_ENEMIES],
+    pub count: usize,
+    pub coins: u32,
+    pub needed: u32,
+    pub dead: bool,
+    pub won: bool,
+}
+
+// The code of the cell (x, y).
+pub fn at(grid: &[u8; AREA], x: usize, y: usize) -> u8
+    requires { ⌜ CellOf (now grid) x y ⌝ }
+    ensures { λ r. ⌜ r ≡ codeIn (now (grid .entry)) x y ⌝ }
+{
+    let i = y * W + x;
+    grid[i]
+}
+
+// The creature stands at (x, y).
+pub fn stands_at(e: Enemy, x: usize, y: usize) -> bool
+    ensures { λ r. ⌜ r ≡ standsAt x y e ⌝ }
+{
+    (e.x == x) & (e.y == y)
+}
