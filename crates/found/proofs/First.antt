@@ -1,11 +1,12 @@
 -- Laws of the search for the first: a turn of a loop over a list, its end, and what is found. Assumes nothing.
-use mathlib.Core.Bool.{Bool, true, false, cond}
+use mathlib.Core.Bool.{Bool, true, false, cond, not, _||_}
 use mathlib.Core.List.{List, [], _∷_}
 use mathlib.Core.Path.{_≡_, refl, sym, _∙_}
 use Prim.Native.Nat.{ℕ, suc, _+_, _<_, _≤_}
 use native.Mathlib.Omega.{arith}
 use lib.ListN.{length, getD, drop}
-use Rattle.found.specs.First.{firstFrom, first}
+use Rattle.laws.specs.Lists.{any}
+use Rattle.found.specs.First.{firstFrom, first, nobody}
 use Rattle.found.specs.declared.Found.{Found}
 use Rattle.found.specs.declared.Found.the-variants.{At, Nobody}
 
@@ -31,3 +32,15 @@ from-bound test k i (a ∷ l) e = pick-bound (test a) k i (length l) (firstFrom 
 -- who is found is one of the list
 pub first-bound : {A : Type 0} (test : A → Bool) (i : ℕ) (l : List A) → first test l ≡ At i → i < length l
 first-bound test i l e = omega (arith, from-bound test 0 i l e)
+
+-- nobody is found where none passes, and only there
+from-nobody : {A : Type 0} (test : A → Bool) (k : ℕ) (l : List A) → nobody (firstFrom test k l) ≡ not (any test l)
+from-nobody test k [] = refl
+from-nobody test k (a ∷ l) = go (test a) (from-nobody test (k + 1) l)
+  where
+    go : (b : Bool) → nobody (firstFrom test (k + 1) l) ≡ not (any test l) → nobody (cond b (At k) (firstFrom test (k + 1) l)) ≡ not (b || any test l)
+    go true e = refl
+    go false e = e
+
+pub nobody-any : {A : Type 0} (test : A → Bool) (l : List A) → nobody (first test l) ≡ not (any test l)
+nobody-any test l = from-nobody test 0 l

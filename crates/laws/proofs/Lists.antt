@@ -1,5 +1,5 @@
 -- Lists from an index on, and the turns of a loop that tests, counts or rewrites each element. Assumes nothing.
-use mathlib.Core.Bool.{Bool, true, false, cond, _&&_, _||_, not}
+use mathlib.Core.Bool.{Bool, true, false, cond, _&&_, _||_, not, and-assoc, or-assoc}
 use mathlib.Core.List.{List, [], _∷_, _++_, map, append-nil}
 use mathlib.Core.Path.{_≡_, refl, ap, sym, _∙_}
 use Prim.Native.Nat.{ℕ, zero, suc, _+_, _<_, _≤_}
@@ -9,7 +9,7 @@ use native.Mathlib.Omega.{arith}
 use lib.ListN.{length, getD, take, drop, set, drop-of-length-le, length-map, length-take}
 use lib.Seq.{drop-cons, getD-take, take-suc, take-suc-set, drop-set-lt, append-snoc, take-all}
 use Rattle.laws.specs.Lists.{all, any, count}
-use Rattle.laws.proofs.Choice.{and-left, and-right, and-both}
+use Rattle.laws.proofs.Choice.{and-left, and-right, and-both, or-left, or-right}
 
 module _ {A : Type 0} where
   -- the elements from i on: the one at i, and those from i + 1 on
@@ -118,3 +118,18 @@ module _ {A : Type 0} (f : A → Bool) where
   all-set [] i v a e = a
   all-set (x ∷ l) zero v a e = and-both (f v) (all f l) e (and-right (f x) (all f l) a)
   all-set (x ∷ l) (suc i) v a e = and-both (f x) (all f (set l i v)) (and-left (f x) (all f l) a) (all-set l i v (and-right (f x) (all f l) a) e)
+
+  -- what holds of no element
+  pub any-set : (l : List A) (i : ℕ) (v : A) → any f l ≡ false → f v ≡ false → any f (set l i v) ≡ false
+  any-set [] i v a e = a
+  any-set (x ∷ l) zero v a e = rw e (or-right (f x) (any f l) a)
+  any-set (x ∷ l) (suc i) v a e = rw (or-left (f x) (any f l) a) (any-set l i v (or-right (f x) (any f l) a) e)
+
+  -- all and any of two lists, one after the other
+  pub all-append : (s t : List A) → all f (s ++ t) ≡ (all f s && all f t)
+  all-append [] t = refl
+  all-append (x ∷ s) t = rw (all-append s t) (sym (and-assoc (f x) (all f s) (all f t)))
+
+  pub any-append : (s t : List A) → any f (s ++ t) ≡ (any f s || any f t)
+  any-append [] t = refl
+  any-append (x ∷ s) t = rw (any-append s t) (sym (or-assoc (f x) (any f s) (any f t)))
