@@ -32,6 +32,10 @@ pub across-keeps : {S : Type 0} (step : S → ℕ → S) (P : S → Type 0) (n k
 across-keeps step P n zero i s h f p = p
 across-keeps step P n (suc k) i s h f p = across-keeps step P n k (i + 1) (step s i) (omega arith) f (f s i (omega arith) p)
 
+pub down-keeps : {S : Type 0} (step : S → ℕ → S) (P : S → Type 0) (n k : ℕ) (s : S) → k ≤ n → ((t : S) (j : ℕ) → j < n → P t → P (step t j)) → P s → P (downTo step k s)
+down-keeps step P n zero s h f p = p
+down-keeps step P n (suc k) s h f p = down-keeps step P n k (step s k) (omega arith) f (f s k (omega arith) p)
+
 -- where no step changes a state, the fold leaves it
 pub across-still : {S : Type 0} (step : S → ℕ → S) (n k i : ℕ) (s : S) → k + i ≤ n → ((j : ℕ) → j < n → step s j ≡ s) → across step k i s ≡ s
 across-still step n zero i s h f = refl
