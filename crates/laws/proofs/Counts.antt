@@ -1,6 +1,7 @@
 -- How a store changes a count. Assumes nothing.
 use mathlib.Core.Bool.{Bool, true, false, cond}
 use mathlib.Core.List.{List, [], _∷_}
+use mathlib.Core.Logic.{⊎-elim}
 use mathlib.Core.Path.{_≡_, refl, sym, _∙_, ap}
 use Prim.Native.Nat.{ℕ, zero, suc, _+_, _≤_, _<_}
 use native.Mathlib.Nat.{le-of-suc-le-suc, not-suc-le-zero}
@@ -9,6 +10,7 @@ use borrow.Author.Tests.{eq-eqb, ne-eqb}
 use lib.Dec.{eqb}
 use lib.ListN.{length, getD, set}
 use Rattle.laws.specs.Lists.{count, bit, tally}
+use Rattle.laws.proofs.Choice.{same?}
 
 one-less : (b : Bool) (n : ℕ) → n + bit b ≡ cond b (suc n) n
 one-less true n = omega arith
@@ -79,3 +81,19 @@ pub tally-none : (v : ℕ) (l : List ℕ) → ((c : ℕ) → getD l c 0 ≡ v �
 unfolding tally
 tally-none v [] n = refl
 tally-none v (x ∷ l) n = rw (ne-eqb x v (n 0)) (tally-none v l (λ c e. n (suc c) e))
+
+-- two lists that pass their tests at the same places have the same count
+pub count-same : {A B : Type 0} (f : A → Bool) (g : B → Bool) (l : List A) (m : List B) (d : A) (e : B) → length l ≡ length m → ((c : ℕ) → c < length l → f (getD l c d) ≡ g (getD m c e)) → count f l ≡ count g m
+count-same f g [] [] d e h s = refl
+count-same f g [] (y ∷ m) d e h s = absurd (omega arith)
+count-same f g (x ∷ l) [] d e h s = absurd (omega arith)
+count-same f g (x ∷ l) (y ∷ m) d e h s =
+    let i = count-same f g l m d e (omega arith) (λ c k. s (suc c) (omega arith)) in
+    rw (s 0 (omega arith), i)
+
+eqb-iff : (x a y b : ℕ) → (x ≡ a → y ≡ b) → (y ≡ b → x ≡ a) → eqb x a ≡ eqb y b
+eqb-iff x a y b f g = ⊎-elim (λ e. eq-eqb x a e ∙ sym (eq-eqb y b (f e))) (λ n. ne-eqb x a n ∙ sym (ne-eqb y b (λ e. n (g e)))) (same? x a)
+
+pub tally-same : (a b : ℕ) (l m : List ℕ) (d e : ℕ) → length l ≡ length m → ((c : ℕ) → (getD l c d ≡ a → getD m c e ≡ b) × (getD m c e ≡ b → getD l c d ≡ a)) → tally a l ≡ tally b m
+unfolding tally
+tally-same a b l m d e h s = count-same (λ x. eqb x a) (λ x. eqb x b) l m d e h (λ c k. eqb-iff (getD l c d) a (getD m c e) b (s c .0) (s c .1))

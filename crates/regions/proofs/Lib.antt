@@ -1,0 +1,4 @@
+pub mod Seeking
+pub mod Rank
+pub mod Numbers
+pub mod Counting
