@@ -4,8 +4,10 @@ use mathlib.Core.List.{List, [], _∷_}
 use mathlib.Core.Path.{_≡_, refl, sym, _∙_}
 use Prim.Native.Nat.{ℕ, suc, _+_, _<_, _≤_}
 use native.Mathlib.Omega.{arith}
+use lib.Dec.{T}
 use lib.ListN.{length, getD, drop}
 use Rattle.laws.specs.Lists.{any}
+use Rattle.laws.proofs.Lists.{drop-one}
 use Rattle.found.specs.First.{firstFrom, first, nobody}
 use Rattle.found.specs.declared.Found.{Found}
 use Rattle.found.specs.declared.Found.the-variants.{At, Nobody}
@@ -20,6 +22,15 @@ module _ {A : Type 0} (test : A → Bool) (l : List A) (i : ℕ) {R : Found} whe
 
   pub first-none : drop i l ≡ [] → firstFrom test i (drop i l) ≡ R → Nobody ≡ R
   first-none h e = rw h at e
+
+  -- a turn of it, by what the test answered of the i-th
+  pub turn-here : (d : A) (b : Bool) → b ≡ test (getD l i d) → T b → i < length l → firstFrom test i (drop i l) ≡ R → At i ≡ R
+  turn-here d true t h less e = first-here (drop-one l i d less) e (sym t)
+  turn-here d false t h less e = absurd h
+
+  pub turn-more : (d : A) (b : Bool) → b ≡ test (getD l i d) → T (not b) → i < length l → firstFrom test i (drop i l) ≡ R → firstFrom test (i + 1) (drop (i + 1) l) ≡ R
+  turn-more d true t h less e = absurd h
+  turn-more d false t h less e = first-more (drop-one l i d less) e (sym t)
 
 pick-bound : (b : Bool) (k i n : ℕ) (r : Found) → (r ≡ At i → i < k + 1 + n) → cond b (At k) r ≡ At i → i < k + suc n
 pick-bound true k i n r f e = let q : k ≡ i = cc in omega arith
