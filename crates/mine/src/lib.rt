@@ -1,0 +1,5 @@
+// Block Mine: the public calls.
+mod question;
+
+pub use question::who;
+pub use question::who_of;
