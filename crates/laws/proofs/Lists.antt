@@ -1,5 +1,5 @@
 -- Lists from an index on, and the turns of a loop that tests, counts or rewrites each element. Assumes nothing.
-use mathlib.Core.Bool.{Bool, true, false, cond, _&&_, _||_, not, and-assoc, or-assoc}
+use mathlib.Core.Bool.{Bool, true, false, cond, _&&_, _||_, not, and-assoc, or-assoc, or-false}
 use mathlib.Core.List.{List, [], _∷_, _++_, map, append-nil}
 use mathlib.Core.Path.{_≡_, refl, ap, sym, _∙_}
 use Prim.Native.Nat.{ℕ, zero, suc, _+_, _<_, _≤_}
@@ -133,3 +133,9 @@ module _ {A : Type 0} (f : A → Bool) where
   pub any-append : (s t : List A) → any f (s ++ t) ≡ (any f s || any f t)
   any-append [] t = refl
   any-append (x ∷ s) t = rw (any-append s t) (sym (or-assoc (f x) (any f s) (any f t)))
+
+  -- one element more among the first i
+  pub any-take : (l : List A) (i : ℕ) (d : A) → i < length l → any f (take (i + 1) l) ≡ (any f (take i l) || f (getD l i d))
+  any-take l i d h =
+      rw (add-one, take-suc l i d h, any-append (take i l) (getD l i d ∷ []))
+      (ap (λ (b : Bool). any f (take i l) || b) (or-false (f (getD l i d))))
