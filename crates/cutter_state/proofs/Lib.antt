@@ -1,0 +1,4 @@
+pub mod Signs
+pub mod Codes
+pub mod Ring
+pub mod Facts

@@ -1,0 +1,4 @@
+pub mod State
+pub mod WellFormed
+pub mod Change
+pub mod Passes

@@ -1,0 +1,27 @@
+// Block Cutter: the state, and the check of a state that a caller hands in.
+mod checks;
+
+pub use checks::check;
+use ground::CN;
+use ground::MAX_ENEMIES;
+use ground::Mover;
+
+pub const MAX_LIVES: u32 = 3;
+
+pub const MAX_LEVEL: u32 = 65535;
+
+#[repr(C)]
+pub struct Cutter {
+    pub grid: [u8; CN],
+    pub px: usize,
+    pub py: usize,
+    pub dx: i8,
+    pub dy: i8,
+    pub trailing: bool,
+    pub enemies: [Mover; MAX_ENEMIES],
+    pub count: usize,
+    pub level: u32,
+    pub lives: u32,
+    pub dead: bool,
+    pub won_level: bool,
+}
