@@ -1,0 +1,22 @@
+-- The cases of a tick, computed. Assumes nothing.
+use mathlib.Core.Path.{refl}
+use Rattle.mine_state.specs.State.{emptyAt, freeAt}
+use Rattle.mine_state.specs.WellFormed.{cellsOk, creaturesOk, numbersOk, wellFormed}
+use Rattle.mine_rules.specs.Gravity.{carried, rested, without, overPlayer, overCreature, overEmpty, rolled, overOther, cellFall, rowFall, gravityOf}
+use Rattle.mine_rules.specs.GravityCases.{P4, P5, P6, P8}
+
+pub p4 : P4
+unfolding wellFormed cellsOk creaturesOk numbersOk emptyAt freeAt carried rested without overPlayer overCreature overEmpty rolled overOther cellFall rowFall gravityOf
+p4 = record { right = refl; marked = refl; unmarked = refl }
+
+pub p5 : P5
+unfolding wellFormed cellsOk creaturesOk numbersOk emptyAt freeAt carried rested without overPlayer overCreature overEmpty rolled overOther cellFall rowFall gravityOf
+p5 = record { right = refl; ends = refl }
+
+pub p6 : P6
+unfolding wellFormed cellsOk creaturesOk numbersOk emptyAt freeAt carried rested without overPlayer overCreature overEmpty rolled overOther cellFall rowFall gravityOf
+p6 = record { right = refl; ends = refl }
+
+pub p8 : P8
+unfolding wellFormed cellsOk creaturesOk numbersOk emptyAt freeAt carried rested without overPlayer overCreature overEmpty rolled overOther cellFall rowFall gravityOf
+p8 = record { right = refl; left = refl; two = refl }

@@ -1,0 +1,64 @@
+-- What the functions over the lent grid and marks lean on. Assumes nothing.
+use mathlib.Core.Bool.{Bool, true, false, _&&_, _||_, not}
+use mathlib.Core.List.{List}
+use mathlib.Core.Path.{_≡_, refl, sym, _∙_}
+use Prim.Native.Nat.{ℕ, _+_, _<_}
+use native.Mathlib.Omega.{arith}
+use lib.Dec.{eqb, leb}
+use borrow.Author.Tests.{eqb-true, eqb-false, eq-eqb, ne-eqb}
+use Rattle.laws.proofs.Choice.{and-left, or-left, or-right}
+use Rattle.found.specs.First.{nobody}
+use Rattle.found.specs.declared.Found.{Found}
+use Rattle.mine_state.specs.declared.Mine.{Mine}
+use Rattle.mine_state.specs.State.{W, H, EMPTY, place, codeIn, codeAt, emptyAt, playerAt, firstAt}
+use Rattle.mine_state.specs.Spots.{firstSpot, freeSpot, Stand}
+use Rattle.mine_state.proofs.Cells.{empty-inside}
+use Rattle.mine_state.proofs.Places.{free-spot, player-spot, first-spot}
+use Rattle.mine_rules.specs.Gravity.{isObject, rested, openSide, overOther, cellFall}
+use Rattle.mine_rules.specs.Falls.{Quietly, openSpot, lent}
+
+below-but : (j x : ℕ) → j < x + 1 → (j ≡ x → ⊥) → j < x
+below-but j x h a = omega arith
+
+-- a row without objects, a turn at a time: b is what the loop has seen, o what the cell at x adds
+pub quiet-more : (g : List ℕ) (y x : ℕ) (b : Bool) {o : Bool} → (b ≡ false → Quietly g y x) → o ≡ isObject (codeIn g x y) → (b || o) ≡ false → Quietly g y (x + 1)
+quiet-more g y x b {o} f e n j h = go (eqb j x) refl
+  where
+    go : (t : Bool) → eqb j x ≡ t → isObject (codeIn g j y) ≡ false
+    go true q = rw (eqb-true j x q) (sym e ∙ or-right b o n)
+    go false q = let a = eqb-false j x q in f (or-left b o n) j (below-but j x h a)
+
+-- the lent grid and marks change nothing of where everyone stands
+pub stand-lent : {m : Mine} {spots : List ℕ} {player : ℕ} → Stand m spots player → (g : List ℕ) (f : List Bool) → Stand (lent m g f) spots player
+stand-lent s g f = record { spotted = record { placed = s .spotted .placed; them = s .spotted .them }; home = s .home; you = s .you }
+
+pub open-spot : {m : Mine} {spots : List ℕ} {player : ℕ} → Stand m spots player → (x y : ℕ) → openSpot (m .grid) spots player x y (y + 1) ≡ openSide m x y
+open-spot s x y = rw (free-spot s x y, free-spot s x (y + 1))
+
+pub open-inside : (g spots : List ℕ) (player x y by : ℕ) → openSpot g spots player x y by ≡ true → x < W
+unfolding freeSpot
+open-inside g spots player x y by e =
+    let f = and-left (freeSpot g spots player x y) (freeSpot g spots player x by) e in
+    let u = emptyAt g x y in
+    let v = not (eqb player (place x y)) in
+    empty-inside g x y (and-left u v (and-left (u && v) (nobody (firstSpot (place x y) spots)) f)) .0
+
+module _ {m : Mine} {spots : List ℕ} {player : ℕ} (s : Stand m spots player) where
+  -- whether a side is open, told by places
+  pub is-open : (g : List ℕ) (f : List Bool) (x y : ℕ) {b : Bool} → openSpot g spots player x y (y + 1) ≡ b → openSide (lent m g f) x y ≡ b
+  is-open g f x y e = sym (open-spot (stand-lent s g f) x y) ∙ e
+
+  -- who stands at a cell, told by places
+  pub on-player : (x y : ℕ) → x < W → player ≡ place x y → playerAt m x y ≡ true
+  on-player x y h e = sym (player-spot s x y h) ∙ eq-eqb player (place x y) e
+
+  pub off-player : (x y : ℕ) → x < W → (player ≡ place x y → ⊥) → playerAt m x y ≡ false
+  off-player x y h e = sym (player-spot s x y h) ∙ ne-eqb player (place x y) e
+
+  pub found : (x y : ℕ) → x < W → y < H → {r : Found} → firstSpot (place x y) spots ≡ r → firstAt m x y ≡ r
+  found x y hx hy e = sym (first-spot (s .spotted) x y hx hy) ∙ e
+
+-- the last case of a cell: over anything but empty and objects
+pub cell-rests : (m : Mine) (x y : ℕ) → isObject (codeAt m x y) ≡ true → leb H (y + 1) ≡ false → eqb (codeAt m x (y + 1)) EMPTY ≡ false → isObject (codeAt m x (y + 1)) ≡ false → cellFall m x y ≡ rested m x y
+unfolding cellFall overOther
+cell-rests m x y o l e u = rw (o, l, e, u)

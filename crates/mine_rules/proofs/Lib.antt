@@ -1,0 +1,5 @@
+pub mod GravityKeeps
+pub mod GravitySound
+pub mod GravityLoops
+pub mod GravityLent
+pub mod GravityCases

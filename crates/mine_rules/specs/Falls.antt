@@ -1,0 +1,67 @@
+-- What the functions over the lent grid, marks and places tell, for `gravity` to put together.
+use mathlib.Core.Bool.{Bool, false, _&&_}
+use mathlib.Core.List.{List}
+use mathlib.Core.Path.{_≡_}
+use Prim.Native.Nat.{ℕ, _+_, _<_}
+use lib.ListN.{length}
+use Rattle.mine_state.specs.declared.Mine.{Mine}
+use Rattle.mine_state.specs.declared.Enemy.{Enemy}
+use Rattle.mine_state.specs.State.{AREA, MAX-ENEMIES, codeIn, CellOf}
+use Rattle.mine_state.specs.Spots.{freeSpot, Stand}
+use Rattle.mine_state.specs.Change.{withGrid, withMarks, withCoins, killed}
+use Rattle.mine_rules.specs.declared.fall.Fell.{Fell}
+use Rattle.mine_rules.specs.declared.fall.Fell.the-variants.{Quiet, Collected, Crushed, Squashed}
+use Rattle.mine_rules.specs.Gravity.{isObject, without}
+
+-- a cell of a lent grid and its marks
+pub record LentCell (g : List ℕ) (f : List Bool) (x y : ℕ) : Type 0 where
+  pub cell : CellOf g x y
+  pub marks : length f ≡ AREA
+
+-- a cell and another
+pub record LentCells (g : List ℕ) (f : List Bool) (x y nx ny : ℕ) : Type 0 where
+  pub this : LentCell g f x y
+  pub other : LentCell g f nx ny
+
+-- a cell, and the creatures' places
+pub record Reached (g : List ℕ) (f : List Bool) (spots : List ℕ) (x y : ℕ) : Type 0 where
+  pub here : LentCell g f x y
+  pub slots : length spots ≡ MAX-ENEMIES
+
+-- two cells of a column are free, by places
+abbrev pub openSpot : List ℕ → List ℕ → ℕ → ℕ → ℕ → ℕ → Bool
+openSpot g spots player x y by = freeSpot g spots player x y && freeSpot g spots player x by
+
+-- the first n cells of the row y hold no object
+abbrev pub Quietly : List ℕ → ℕ → ℕ → Type 0
+Quietly g y n = (x : ℕ) → x < n → isObject (codeIn g x y) ≡ false
+
+-- the state m with the grid g and the marks f
+abbrev pub lent : Mine → List ℕ → List Bool → Mine
+lent m g f = withMarks (withGrid m g) f
+
+-- the state m with all that a tick may change
+abbrev pub whole : Mine → List ℕ → List Bool → List Enemy → ℕ → ℕ → Bool → Mine
+whole m g f es n c d = record { grid = g; falling = f; px = m .px; py = m .py; enemies = es; count = n; coins = c; needed = m .needed; dead = d; won = m .won }
+
+-- what an object did beside moving, to the rest of the state
+abbrev pub happened : Fell → Mine → Mine
+happened Quiet m = m
+happened Collected m = withCoins m (m .coins + 1)
+happened Crushed m = killed m
+happened (Squashed k) m = without m k
+
+-- a squashed creature is one of the n that there are
+abbrev pub Below : Fell → ℕ → Type 0
+Below Quiet n = 0 < 1
+Below Collected n = 0 < 1
+Below Crushed n = 0 < 1
+Below (Squashed k) n = k < n
+
+-- Whatever else a state holds: the step makes of the grid g and the marks f the grid g′ and the marks f′, and r beside.
+abbrev pub Does : (Mine → Mine) → List ℕ → List Bool → Fell → List ℕ → List Bool → Type 0
+Does step g f r g′ f′ = (m : Mine) → (step (lent m g f) ≡ happened r (lent m g′ f′)) × Below r (m .count)
+
+-- The same where spots and player tell who stands where.
+abbrev pub Falls : List ℕ → ℕ → (Mine → Mine) → List ℕ → List Bool → Fell → List ℕ → List Bool → Type 0
+Falls spots player step g f r g′ f′ = (m : Mine) → Stand m spots player → (step (lent m g f) ≡ happened r (lent m g′ f′)) × Below r (m .count)

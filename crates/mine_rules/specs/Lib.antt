@@ -1,0 +1,3 @@
+pub mod Gravity
+pub mod Falls
+pub mod GravityCases

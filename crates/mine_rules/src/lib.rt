@@ -1,0 +1,4 @@
+// Block Mine: the rules, on well-formed states.
+mod fall;
+
+pub use fall::gravity;
