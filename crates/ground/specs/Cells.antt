@@ -1,6 +1,6 @@
 -- The 64 by 32 cells of Block Cutter, numbered row by row, and their neighbours.
 use mathlib.Core.Path.{_≡_}
-use mathlib.Core.Bool.{Bool, cond}
+use mathlib.Core.Bool.{Bool, cond, _&&_}
 use mathlib.Core.List.{List, [], _∷_}
 use Prim.Native.Nat.{ℕ, _+_, _-_, _*_, _%_}
 use lib.Dec.{eqb, ltb}
@@ -64,3 +64,7 @@ blackCount g = tally CB-BLACK g
 -- the cell of a creature
 abbrev pub cellOf : Mover → ℕ
 cellOf m = m .y * CW + m .x
+
+-- a creature stands at (x, y)
+abbrev pub standsAt : ℕ → ℕ → Mover → Bool
+standsAt x y m = eqb (m .x) x && eqb (m .y) y

@@ -2,7 +2,7 @@
 ghost use mathlib.Core.Path.{_≡_};
 ghost use lib.ListN.{length};
 ghost use Rattle.laws.specs.Lists.{tally};
-ghost use Rattle.ground.specs.Cells.{CN, cellAt, leftOf, rightOf, upOf, downOf, blackAt, onBorder, blackCount};
+ghost use Rattle.ground.specs.Cells.{CN, cellAt, leftOf, rightOf, upOf, downOf, blackAt, onBorder, blackCount, standsAt};
 
 pub const CW: usize = 64;
 
@@ -25,6 +25,13 @@ pub struct Mover {
     pub y: u8,
     pub vx: i8,
     pub vy: i8,
+}
+
+// The creature stands at (x, y).
+pub fn stands_at(e: Mover, x: usize, y: usize) -> bool
+    ensures { λ r. ⌜ r ≡ standsAt x y e ⌝ }
+{
+    (e.x as usize == x) & (e.y as usize == y)
 }
 
 // What a cell holds; off the grid reads as claimed.

@@ -1,0 +1,10 @@
+-- Document 01, 'What has to be reshaped': one question takes the creatures as a lent list and tells the first at a cell, or nobody.
+use mathlib.Core.List.{List}
+use Prim.Native.Nat.{ℕ}
+use Rattle.found.specs.First.{first}
+use Rattle.found.specs.declared.Found.{Found}
+use Rattle.ground.specs.Cells.{standsAt}
+use Rattle.ground.specs.declared.Mover.{Mover}
+
+abbrev pub whoAt : List Mover → ℕ → ℕ → Found
+whoAt list x y = first (standsAt x y) list
