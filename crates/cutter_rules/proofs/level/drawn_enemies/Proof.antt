@@ -1,0 +1,70 @@
+use mathlib.Core.List.{_++_}
+use mathlib.Core.Path.{_≡_, refl, ap, _∙_}
+use Prim.Native.Nat.{ℕ, _≤_, _-_}
+use native.Mathlib.Omega.{arith}
+use borrow.Author.Needs.{needs}
+use lib.ListN.{drop, replicate, length-replicate}
+use denote.Ref.{now}
+use Rattle.laws.specs.Lists.{table}
+use Rattle.laws.proofs.Table.{table-none, table-more}
+use Rattle.ground.specs.Cells.{MAX-ENEMIES}
+use Rattle.cutter_rules.specs.Level.{drawn, noMover, drawnEnemies}
+use Rattle.cutter_rules.proofs.Draws.{draws-each, drop-replicate}
+use Rattle.cutter_rules.proofs.level.drawn_enemies.Statement.{statement}
+use Rattle.cutter_rules.proofs.level.drawn_enemies.Tie as tie
+
+abbrev Inv-loop : tie.InvT-loop
+Inv-loop draws n out₀ i₀ out i =
+    (i ≤ n) × (out ≡ table i (drawn draws) ++ drop i (replicate MAX-ENEMIES noMover))
+
+abbrev μ-loop : tie.MeasureT-loop
+μ-loop draws n out₀ i₀ out i = n - i
+
+loop-holds : tie.Need-loop-holds Inv-loop μ-loop
+loop-holds c = (omega arith, table-none (drawn (now (c .before .args .draws))) (replicate MAX-ENEMIES noMover))
+
+drawn-mover-requires : tie.Need-drawn-mover-requires Inv-loop μ-loop
+drawn-mover-requires c κs =
+    let s = c .before .before .before in
+    draws-each (now (s .args .draws)) (s .args .n) (c .before .loop .i) (s .pre) (omega arith)
+
+mul-out : tie.Need-mul-out Inv-loop μ-loop
+mul-out c = search needs
+
+array-set-from-out : tie.Need-array-set-from-out Inv-loop μ-loop
+array-set-from-out c = search needs
+
+add-i : tie.Need-add-i Inv-loop μ-loop
+add-i c = search needs
+
+loop-less : tie.Need-loop-less Inv-loop μ-loop
+loop-less c = search needs
+
+loop-again : tie.Need-loop-again Inv-loop μ-loop
+loop-again c =
+    let k = c .before .before in
+    let s = k .before .before in
+    (omega arith, rw (c .drawn-mover .ensures, k .loop .inv .1) (table-more (k .loop .i) (drawn (now (s .args .draws))) (replicate MAX-ENEMIES noMover) noMover (omega (arith, s .pre))))
+
+returns : tie.Need-returns Inv-loop μ-loop
+unfolding drawnEnemies
+returns c =
+    let k = c .before in
+    let s = k .before .before in
+    let e : k .loop .i ≡ s .args .n = omega arith in
+    k .loop .inv .1 ∙ rw (e, drop-replicate MAX-ENEMIES (s .args .n) noMover)
+
+pub drawn-enemies-spec : {M : Type 1} → statement M
+drawn-enemies-spec =
+    tie.close
+    (tie.spec
+    Inv-loop
+    μ-loop
+    loop-holds
+    drawn-mover-requires
+    mul-out
+    array-set-from-out
+    add-i
+    loop-less
+    loop-again
+    returns)

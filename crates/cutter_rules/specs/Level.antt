@@ -1,0 +1,107 @@
+-- Block Cutter: a fresh level, and the draws that it takes.
+use mathlib.Core.Bool.{Bool, true, false, _&&_}
+use mathlib.Core.List.{List, [], _∷_, _++_}
+use mathlib.Core.Path.{_≡_}
+use Prim.Native.Nat.{ℕ, zero, suc, _+_, _-_, _*_, _/_, _≤_, min}
+use lib.Dec.{eqb, ltb}
+use lib.IntN.{ℤ, pos, negsuc}
+use lib.ListN.{length, getD, replicate}
+use Rattle.laws.specs.Lists.{allBelow, table}
+use Rattle.ground.specs.Cells.{CW, CH, CB-BLACK, CB-FILLED, MAX-ENEMIES}
+use Rattle.ground.specs.declared.Mover.{Mover}
+use Rattle.cutter_state.specs.declared.Cutter.{Cutter}
+use Rattle.cutter_state.specs.Change.{withGrid, withPlayer, withDirection, withTrailing, withCreatures}
+
+-- ---- ring claimed, rest black
+
+-- the first and the last row
+abbrev pub edge : List ℕ
+edge = replicate CW CB-FILLED
+
+-- a row between
+abbrev pub between : List ℕ
+between = CB-FILLED ∷ replicate (CW - 2) CB-BLACK ++ (CB-FILLED ∷ [])
+
+-- the same row k times
+abbrev pub rows : ℕ → List ℕ → List ℕ
+rows zero r = []
+rows (suc k) r = r ++ rows k r
+
+unfoldable pub freshGrid : List ℕ
+freshGrid = edge ++ rows (CH - 2) between ++ edge
+
+-- ---- the draws
+
+-- min(level, 16) creatures
+abbrev pub creaturesOf : ℕ → ℕ
+creaturesOf level = min level MAX-ENEMIES
+
+-- four draws each
+abbrev pub DRAWS : ℕ
+DRAWS = 4
+
+-- the draw k of the creature i
+abbrev pub drawAt : List ℕ → ℕ → ℕ → ℕ
+drawAt draws i k = getD draws (DRAWS * i + k) 0
+
+-- below 62, 30, 2, 2
+unfoldable pub inRange : List ℕ → ℕ → Bool
+inRange draws i =
+    ltb (drawAt draws i 0) (CW - 2)
+    && ltb (drawAt draws i 1) (CH - 2)
+    && ltb (drawAt draws i 2) 2
+    && ltb (drawAt draws i 3) 2
+
+-- the right number of draws for n creatures, and each in range
+unfoldable pub drawsOk : List ℕ → ℕ → Bool
+drawsOk draws n = eqb (length draws) (DRAWS * n) && allBelow n (inRange draws)
+
+-- velocity draw 0 is -1, 1 is 1
+unfoldable pub velocity : ℕ → ℤ
+velocity zero = negsuc 0
+velocity (suc d) = pos 1
+
+-- place is 1 plus the draw
+unfoldable pub drawn : List ℕ → ℕ → Mover
+drawn draws i =
+    record {
+      x = 1 + drawAt draws i 0;
+      y = 1 + drawAt draws i 1;
+      vx = velocity (drawAt draws i 2);
+      vy = velocity (drawAt draws i 3);
+    }
+
+-- a slot that holds zeros
+abbrev pub noMover : Mover
+noMover = record { x = 0; y = 0; vx = pos 0; vy = pos 0 }
+
+-- n creatures, and zeros in the slots past them
+unfoldable pub drawnEnemies : List ℕ → ℕ → List Mover
+drawnEnemies draws n = table n (drawn draws) ++ replicate (MAX-ENEMIES - n) noMover
+
+-- ---- the level
+
+-- player (32,0), no direction, not trailing
+unfoldable pub atStart : Cutter → Cutter
+atStart c = withTrailing (withDirection (withPlayer c (CW / 2) 0) (pos 0) (pos 0)) false
+
+-- a fresh level for the state's own level
+unfoldable pub freshLevel : Cutter → List ℕ → Cutter
+freshLevel c draws =
+    withCreatures (withGrid (atStart c) freshGrid) (drawnEnemies draws (creaturesOf (c .level))) (creaturesOf (c .level))
+
+-- ---- what the code is handed
+
+-- the four draws of a creature are there
+abbrev pub FourAt : List ℕ → ℕ → Type 0
+FourAt draws i = DRAWS * i + DRAWS ≤ length draws
+
+-- the draws of the creature i
+pub record DrawsAt (draws : List ℕ) (i : ℕ) : Type 0 where
+  pub there : FourAt draws i
+  pub fit : inRange draws i ≡ true
+
+-- the draws of n creatures
+pub record DrawsFor (draws : List ℕ) (n : ℕ) : Type 0 where
+  pub few : n ≤ MAX-ENEMIES
+  pub fit : drawsOk draws n ≡ true

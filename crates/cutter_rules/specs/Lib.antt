@@ -1,0 +1,5 @@
+pub mod Ahead
+pub mod Level
+pub mod Ring
+pub mod Step
+pub mod Tick

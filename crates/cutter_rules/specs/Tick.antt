@@ -1,0 +1,75 @@
+-- Block Cutter: the creature tick.
+use mathlib.Core.Bool.{Bool, cond, _||_}
+use mathlib.Core.List.{List, [], _∷_, _++_}
+use mathlib.Core.Path.{_≡_}
+use Prim.Native.Nat.{ℕ, _/_, _%_, _≤_}
+use lib.Dec.{eqb}
+use lib.IntN.{ℤ, pos, negsuc}
+use lib.ListN.{length, take, drop}
+use Rattle.laws.specs.Lists.{any}
+use Rattle.found.specs.First.{first}
+use Rattle.found.specs.declared.Found.{Found}
+use Rattle.ground.specs.Cells.{CW, CN, CB-TRAIL, MAX-ENEMIES, cellAt, blackAt, cellOf}
+use Rattle.ground.specs.declared.Mover.{Mover}
+use Rattle.cutter_state.specs.declared.Cutter.{Cutter}
+use Rattle.cutter_state.specs.State.{creatures, spare}
+use Rattle.cutter_state.specs.Change.{withCreatures, withDead}
+use Rattle.cutter_rules.specs.declared.enemies.Moved.{Moved}
+use Rattle.cutter_rules.specs.Ahead.{sideOf, verticalOf, diagonalOf}
+
+-- the first creature at a cell, or nobody
+abbrev pub creatureAt : List Mover → ℕ → Found
+creatureAt es at = first (λ e. eqb (cellOf e) at) es
+
+abbrev pub lineAt : List ℕ → ℕ → Bool
+lineAt g c = eqb (cellAt g c) CB-TRAIL
+
+-- the side, vertical or diagonal cell ahead is line
+unfoldable pub lineAhead : List ℕ → Mover → Bool
+lineAhead g e =
+    lineAt g (sideOf (e .vx) (cellOf e))
+    || lineAt g (verticalOf (e .vy) (cellOf e))
+    || lineAt g (diagonalOf (e .vx) (e .vy) (cellOf e))
+
+-- 1 becomes -1, and -1 becomes 1
+unfoldable pub flipped : ℤ → ℤ
+flipped (pos n) = negsuc 0
+flipped (negsuc n) = pos 1
+
+-- flip if the cell isn't black
+unfoldable pub turned : List ℕ → ℕ → ℤ → ℤ
+turned g c v = cond (blackAt g c) v (flipped v)
+
+-- go to the new diagonal if black, else stay with those velocities
+unfoldable pub gone : List ℕ → Mover → ℤ → ℤ → Mover
+gone g e vx vy =
+    cond (blackAt g (diagonalOf vx vy (cellOf e)))
+    (record { x = diagonalOf vx vy (cellOf e) % CW; y = diagonalOf vx vy (cellOf e) / CW; vx = vx; vy = vy })
+    (record { x = e .x; y = e .y; vx = vx; vy = vy })
+
+-- flip vx if the side cell isn't black, vy likewise
+unfoldable pub bounced : List ℕ → Mover → Mover
+bounced g e =
+    gone g e (turned g (sideOf (e .vx) (cellOf e)) (e .vx)) (turned g (verticalOf (e .vy) (cellOf e)) (e .vy))
+
+-- in order; where line is ahead, the tick ends
+unfoldable pub ticked : List ℕ → List Mover → List Mover
+ticked g [] = []
+ticked g (e ∷ es) = cond (lineAhead g e) (e ∷ es) (bounced g e ∷ ticked g es)
+
+-- the creature tick: dead where one of them has line ahead
+unfoldable pub enemiesStepped : Cutter → Cutter
+enemiesStepped c =
+    withDead (withCreatures c (ticked (c .grid) (creatures c) ++ spare c) (c .count))
+    (c .dead || any (lineAhead (c .grid)) (creatures c))
+
+-- ---- what the code is handed, and what its loop answers
+
+-- the tick of the first n creatures, and whether one of them had line ahead
+unfoldable pub tickOf : List ℕ → List Mover → ℕ → Moved
+tickOf g es n = record { enemies = ticked g (take n es) ++ drop n es; dead = any (lineAhead g) (take n es) }
+
+-- what the tick is lent
+pub record Lent (g : List ℕ) (n : ℕ) : Type 0 where
+  pub cells : length g ≡ CN
+  pub few : n ≤ MAX-ENEMIES

@@ -1,0 +1,12 @@
+// Block Cutter: the rules, on well-formed states.
+mod ahead;
+mod enemies;
+mod level;
+mod player;
+
+pub use enemies::enemy_at;
+pub use enemies::step_enemies;
+pub use level::creatures_of;
+pub use level::draws_ok;
+pub use level::new_level;
+pub use player::direction;
