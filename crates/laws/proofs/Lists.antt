@@ -1,12 +1,12 @@
 -- Lists from an index on, and the turns of a loop that tests, counts or rewrites each element. Assumes nothing.
-use mathlib.Core.Bool.{Bool, true, false, cond, _&&_, _||_, not, and-assoc, or-assoc, or-false}
+use mathlib.Core.Bool.{Bool, true, false, cond, _&&_, _||_, not, and-assoc, or-assoc, or-false, or-true}
 use mathlib.Core.List.{List, [], _∷_, _++_, map, append-nil}
 use mathlib.Core.Path.{_≡_, refl, ap, sym, _∙_}
 use Prim.Native.Nat.{ℕ, zero, suc, _+_, _<_, _≤_}
 use native.Mathlib.Nat.{le-of-suc-le-suc, not-suc-le-zero}
 use native.Mathlib.Numerals.{add-one}
 use native.Mathlib.Omega.{arith}
-use lib.ListN.{length, getD, take, drop, set, drop-of-length-le, length-map, length-take}
+use lib.ListN.{length, getD, take, drop, set, drop-of-length-le, length-map, length-take, replicate}
 use lib.Seq.{drop-cons, getD-take, take-suc, take-suc-set, drop-set-lt, append-snoc, take-all}
 use Rattle.laws.specs.Lists.{all, any, count}
 use Rattle.laws.proofs.Choice.{and-left, and-right, and-both, or-left, or-right}
@@ -25,6 +25,12 @@ module _ {A : Type 0} where
   getD-default [] i d e h = absurd (not-suc-le-zero h)
   getD-default (x ∷ l) zero d e h = refl
   getD-default (x ∷ l) (suc i) d e h = getD-default l i d e (le-of-suc-le-suc h)
+
+-- a list of one value, also past its end
+pub getD-replicate-same : {A : Type 0} (n i : ℕ) (a : A) → getD (replicate n a) i a ≡ a
+getD-replicate-same zero i a = refl
+getD-replicate-same (suc n) zero a = refl
+getD-replicate-same (suc n) (suc i) a = getD-replicate-same n i a
 
 -- the i-th of the first n elements
 pub taken-one : {A : Type 0} (n : ℕ) (l : List A) (i : ℕ) (d : A) → i < n → i < length l → drop i (take n l) ≡ getD l i d ∷ drop (i + 1) (take n l)
@@ -118,6 +124,12 @@ module _ {A : Type 0} (f : A → Bool) where
   all-set [] i v a e = a
   all-set (x ∷ l) zero v a e = and-both (f v) (all f l) e (and-right (f x) (all f l) a)
   all-set (x ∷ l) (suc i) v a e = and-both (f x) (all f (set l i v)) (and-left (f x) (all f l) a) (all-set l i v (and-right (f x) (all f l) a) e)
+
+  -- what holds of one element
+  pub any-at : (l : List A) (i : ℕ) (d : A) → i < length l → f (getD l i d) ≡ true → any f l ≡ true
+  any-at [] i d h e = absurd (not-suc-le-zero h)
+  any-at (x ∷ l) zero d h e = rw e
+  any-at (x ∷ l) (suc i) d h e = rw (any-at l i d (le-of-suc-le-suc h) e) (or-true (f x))
 
   -- what holds of no element
   pub any-set : (l : List A) (i : ℕ) (v : A) → any f l ≡ false → f v ≡ false → any f (set l i v) ≡ false
