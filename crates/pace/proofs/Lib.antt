@@ -1,1 +1,2 @@
 pub mod Wrap
+pub mod Lent
