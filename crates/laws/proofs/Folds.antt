@@ -11,6 +11,10 @@ module _ {S : Type 0} (step : S → ℕ → S) where
       let q : n - i ≡ suc (n - (i + 1)) = omega arith in
       subst (λ (k : ℕ). across step k i s ≡ R) q e
 
+  -- the same where what the step gives is known
+  pub across-turn : (n i : ℕ) (s s′ : S) {R : S} → i < n → step s i ≡ s′ → across step (n - i) i s ≡ R → across step (n - (i + 1)) (i + 1) s′ ≡ R
+  across-turn n i s s′ {R} h q e = subst (λ (t : S). across step (n - (i + 1)) (i + 1) t ≡ R) q (across-more n i s h e)
+
   pub across-end : (n i : ℕ) (s : S) {R : S} → n ≤ i → across step (n - i) i s ≡ R → s ≡ R
   across-end n i s {R} h e =
       let q : n - i ≡ 0 = omega arith in
