@@ -1,3 +1,7 @@
+pub mod Ways
+pub mod Load
+pub mod Move
 pub mod Gravity
 pub mod Falls
 pub mod GravityCases
+pub mod Tick

@@ -5,7 +5,7 @@ use mathlib.Core.Path.{_≡_, refl}
 use Prim.Native.Nat.{ℕ, _<_}
 use native.Mathlib.Omega.{arith}
 use lib.Dec.{ltb, eqb}
-use borrow.Author.Tests.{ltb-true, eqb-true, eqb-false, eq-eqb}
+use borrow.Author.Tests.{ltb-true, lt-ltb, eqb-true, eqb-false, eq-eqb}
 use Rattle.laws.proofs.Choice.{and-left, and-right}
 use Rattle.found.specs.First.{nobody}
 use Rattle.mine_state.specs.declared.Mine.{Mine}
@@ -42,6 +42,11 @@ module _ (g : List ℕ) (x y : ℕ) (e : emptyAt g x y ≡ true) where
   pub empty-code : codeIn g x y ≡ EMPTY
   unfolding emptyAt
   empty-code = eqb-true (codeIn g x y) EMPTY (and-right (onGrid x y) (eqb (codeIn g x y) EMPTY) e)
+
+-- the code decides whether a cell of the grid is empty
+pub code-empty : (g : List ℕ) (x y : ℕ) → x < W → y < H → emptyAt g x y ≡ eqb (codeIn g x y) EMPTY
+unfolding emptyAt
+code-empty g x y hx hy = simp (lt-ltb x W hx, lt-ltb y H hy)
 
 module _ (m : Mine) (x y : ℕ) (e : freeAt m x y ≡ true) where
   pub free-is-empty : emptyAt (m .grid) x y ≡ true

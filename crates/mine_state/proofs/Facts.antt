@@ -1,6 +1,8 @@
 -- What a state that is not refused tells, part by part, and back. Assumes nothing.
 use mathlib.Core.Bool.{Bool, true, false, _&&_, false≢true}
+use mathlib.Core.List.{List}
 use mathlib.Core.Path.{_≡_, refl, sym}
+use Prim.Native.Nat.{ℕ}
 use native.Mathlib.Omega.{arith}
 use lib.Dec.{leb, eqb}
 use lib.ListN.{length, drop}
@@ -8,7 +10,8 @@ use borrow.Author.Tests.{eqb-true, leb-true, eq-eqb, le-leb}
 use Rattle.laws.specs.Lists.{all}
 use Rattle.laws.proofs.Choice.{and-left, and-right}
 use Rattle.mine_state.specs.declared.Mine.{Mine}
-use Rattle.mine_state.specs.State.{AREA, MAX-ENEMIES, isCode, creatures, purse}
+use Rattle.mine_state.specs.State.{AREA, MAX-ENEMIES, place, isCode, creatures, purse}
+use Rattle.mine_state.specs.Spots.{spotsFrom, Stand}
 use Rattle.mine_state.specs.WellFormed.{cellsOk, playerOk, creatureOk, apart, blank, creaturesOk, numbersOk, wellFormed, checked, refusalOf, WellFormed, Sound}
 use Rattle.mine_state.proofs.Cells.{empty-inside}
 use Rattle.mine_state.proofs.Creatures.{slots-on-map}
@@ -92,3 +95,7 @@ sound m w =
       home = empty-inside (m .grid) (m .px) (m .py) (w .player);
       coins = w .coins;
     }
+
+-- the places that `spots_of` gives, and the player's, tell where everyone stands
+pub stands : (m : Mine) {spots : List ℕ} → Sound m → spots ≡ spotsFrom (m .count) (m .enemies) → Stand m spots (place (m .px) (m .py))
+stands m s e = record { spotted = record { placed = s .placed; them = e }; home = s .home .0; you = refl }

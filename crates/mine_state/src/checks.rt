@@ -124,7 +124,7 @@ fn rest_blank(enemies: [Enemy; MAX_ENEMIES], n: usize) -> bool
 }
 
 // How many cells hold a coin.
-fn coin_count(grid: &[u8; AREA]) -> u16
+pub fn coin_count(grid: &[u8; AREA]) -> u16
     requires { ⌜ length (now grid) ≡ AREA ⌝ }
     ensures { λ r. ⌜ (r ≡ count isCoin (now (grid .entry))) × (r ≤ AREA) ⌝ }
 {

@@ -3,6 +3,7 @@ mod checks;
 mod spots;
 
 pub use checks::check;
+pub use checks::coin_count;
 pub use spots::enemy_at;
 pub use spots::free;
 pub use spots::spots_of;

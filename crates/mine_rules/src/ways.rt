@@ -1,0 +1,48 @@
+// The cell one step away.
+use mine_state::H;
+use mine_state::W;
+ghost use mathlib.Core.Path.{_≡_};
+ghost use Rattle.mine_rules.specs.Ways.{nextCell, OnGrid};
+
+pub const UP: u8 = 0;
+
+pub const RIGHT: u8 = 1;
+
+pub const DOWN: u8 = 2;
+
+pub const LEFT: u8 = 3;
+
+// A cell of the grid, or off it.
+pub enum Ahead {
+    Cell(usize, usize),
+    Off,
+}
+
+// One step from (x, y) in the direction dir.
+pub fn next_cell(dir: u8, x: usize, y: usize) -> Ahead
+    requires { ⌜ OnGrid x y ⌝ }
+    ensures { λ r. ⌜ r ≡ nextCell dir x y ⌝ }
+{
+    match dir {
+        UP => if 0 < y {
+            Ahead::Cell(x, y - 1)
+        } else {
+            Ahead::Off
+        },
+        RIGHT => if x + 1 < W {
+            Ahead::Cell(x + 1, y)
+        } else {
+            Ahead::Off
+        },
+        DOWN => if y + 1 < H {
+            Ahead::Cell(x, y + 1)
+        } else {
+            Ahead::Off
+        },
+        _ => if 0 < x {
+            Ahead::Cell(x - 1, y)
+        } else {
+            Ahead::Off
+        },
+    }
+}
