@@ -18,20 +18,30 @@ use Rattle.ground.proofs.Visit.{holds-in, room-kept}
 use Rattle.border.specs.Border.{claimed, among, reach, reachAround}
 use Rattle.border.specs.Tables.{REACHED}
 
--- a visit's test and `claimed` say the same
-module _ (g : List ℕ) (c : ℕ) (cells : length g ≡ CN) where
-  holds-claimed : Holds g CB-FILLED c → claimed g c ≡ true
+-- what a claimed cell is
+module _ (g : List ℕ) (c : ℕ) where
+  pub claimed-in : claimed g c ≡ true → c < CN
   unfolding claimed
-  holds-claimed h =
+  claimed-in e = ltb-true c CN (and-left (ltb c CN) (eqb (cellAt g c) CB-FILLED) e)
+
+  pub claimed-code : claimed g c ≡ true → cellAt g c ≡ CB-FILLED
+  unfolding claimed
+  claimed-code e = eqb-true (cellAt g c) CB-FILLED (and-right (ltb c CN) (eqb (cellAt g c) CB-FILLED) e)
+
+  pub code-claimed : c < CN → cellAt g c ≡ CB-FILLED → claimed g c ≡ true
+  unfolding claimed
+  code-claimed h e = and-both (ltb c CN) (eqb (cellAt g c) CB-FILLED) (lt-ltb c CN h) (eq-eqb (cellAt g c) CB-FILLED e)
+
+  -- a visit's test says the same
+  holds-claimed : length g ≡ CN → Holds g CB-FILLED c → claimed g c ≡ true
+  holds-claimed l h =
       let i = holds-in g CB-FILLED c (omega arith) h in
-      and-both (ltb c CN) (eqb (cellAt g c) CB-FILLED) (lt-ltb c CN (omega arith)) (eq-eqb (cellAt g c) CB-FILLED (getD-default g c CB-FILLED 3 i ∙ h))
+      code-claimed (omega arith) (getD-default g c CB-FILLED 3 i ∙ h)
 
-  claimed-holds : claimed g c ≡ true → Holds g CB-FILLED c
-  unfolding claimed
-  claimed-holds e =
-      let i = ltb-true c CN (and-left (ltb c CN) (eqb (cellAt g c) CB-FILLED) e) in
-      getD-default g c 3 CB-FILLED (omega arith) ∙ eqb-true (cellAt g c) CB-FILLED (and-right (ltb c CN) (eqb (cellAt g c) CB-FILLED) e)
+  claimed-holds : length g ≡ CN → claimed g c ≡ true → Holds g CB-FILLED c
+  claimed-holds l e = getD-default g c 3 CB-FILLED (omega (arith, claimed-in e)) ∙ claimed-code e
 
+-- a cell is reached, or it is not claimed, or it was reached before
 module _ (g cells : List ℕ) (c : ℕ) where
   reach-new : claimed g c ≡ true → among c cells ≡ false → reach g cells c ≡ cells ++ c ∷ []
   unfolding reach
@@ -69,7 +79,7 @@ mark-more seen cells at h m c =
     (λ (n : c ≡ at → ⊥). rw (ne-eqb c at n, or-false) (m c ∙ sym (ap (λ (n : ℕ). not (eqb n 0)) (getD-set-other seen at c REACHED 0 n))))
     (same? c at)
 
--- what one visit does, and the four round a cell
+-- the tables after some visits, where the definition has reached these cells
 pub record Steps (g cells : List ℕ) (seen′ q′ : List ℕ) (t′ : ℕ) : Type 0 where
   pub list : take t′ q′ ≡ cells
   pub reached : Reached g seen′ q′ t′
@@ -87,10 +97,10 @@ visit-reaches {g} {seen} {q} {t} {at} {seen′} {q′} {t′} r (inl p) =
     }
 visit-reaches {g} {seen} {q} {t} {at} {seen′} {q′} {t′} r (inr p) =
     let same : take t′ q′ ≡ take t q = ap₂ take (p .tail) (p .queue) in
-    let old : claimed g at ≡ true → among at (take t q) ≡ true = λ e.
-    r .marks at ∙ ⊎-elim (λ m. m) (λ (m : marked seen at ≡ false). absurd (p .why (claimed-holds g at (r .room .cells) e) (none-marked seen at m))) (bool-cases (marked seen at)) in
+    let seen-at : claimed g at ≡ true → marked seen at ≡ true = λ e.
+    ⊎-elim (λ m. m) (λ (m : marked seen at ≡ false). absurd (p .why (claimed-holds g at (r .room .cells) e) (none-marked seen at m))) (bool-cases (marked seen at)) in
     record {
-      list = same ∙ sym (⊎-elim (λ e. reach-old g (take t q) at (old e)) (reach-off g (take t q) at) (bool-cases (claimed g at)));
+      list = same ∙ sym (⊎-elim (λ e. reach-old g (take t q) at (r .marks at ∙ seen-at e)) (reach-off g (take t q) at) (bool-cases (claimed g at)));
       reached = record { room = room-kept (r .room) (inr p); marks = λ c. ap (among c) same ∙ r .marks c ∙ sym (ap (λ (l : List ℕ). marked l c) (p .labels)) };
     }
 

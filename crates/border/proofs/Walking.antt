@@ -18,6 +18,7 @@ use Rattle.border.specs.Border.{among, reachAround, walk, toBorder}
 use Rattle.border.specs.Tables.{REACHED, Cleared}
 use Rattle.border.proofs.Reaching.{marked, marked-none, Reached, mark-more, around-reaches}
 
+-- the walk at its i-th cell: it ends there, it goes on, or no cell is left
 module _ (g : List ℕ) (start : ℕ) (cells : List ℕ) (i : ℕ) where
   pub ends : (n : ℕ) → i < length cells → onBorder g (getD cells i CN) ≡ true → walk (suc n) g start cells i ≡ record { at = getD cells i CN; taken = i + 1 }
   unfolding walk
@@ -32,7 +33,7 @@ module _ (g : List ℕ) (start : ℕ) (cells : List ℕ) (i : ℕ) where
   none zero h = refl
   none (suc n) h = rw (le-ltb i (length cells) h, walk)
 
--- before the cell at head is taken
+-- before the cell at head is taken: the queue's front is the list of cells reached, and what is left to do is the answer
 pub record Walking (g : List ℕ) (start : ℕ) (seen q : List ℕ) (head t : ℕ) : Type 0 where
   pub reached : Reached g seen q t
   pub answer : walk (CN - head) g start (take t q) head ≡ walk CN g start (start ∷ []) 0
@@ -110,6 +111,7 @@ walk-start {g} {seen} {q} {start} c =
       answer = ap (λ (l : List ℕ). walk CN g start l 0) one;
     }
 
+-- no walk where the start is beside black
 module _ (g : List ℕ) (start : ℕ) where
   pub stays : onBorder g start ≡ true → toBorder g start ≡ record { at = start; taken = 0 }
   unfolding toBorder
