@@ -9,3 +9,7 @@ pub use fall::gravity;
 pub use level::load;
 pub use moves::step_player;
 pub use ticks::move_enemies;
+pub use ways::DOWN;
+pub use ways::LEFT;
+pub use ways::RIGHT;
+pub use ways::UP;

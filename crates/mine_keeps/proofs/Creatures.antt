@@ -1,0 +1,89 @@
+-- Lists of creatures, no two on one cell: one laid into another's slot, and one gone. Assumes nothing.
+use mathlib.Core.Bool.{Bool, true, false, cond, _&&_, _||_, not}
+use mathlib.Core.List.{List, [], _∷_, _++_}
+use mathlib.Core.Path.{_≡_, refl, sym, _∙_, ap, ap₂}
+use Prim.Native.Nat.{ℕ, zero, suc, _+_, _≤_}
+use native.Mathlib.Omega.{arith}
+use lib.Dec.{eqb}
+use lib.ListN.{set}
+use borrow.Author.Tests.{eqb-true, eqb-false, eq-eqb, ne-eqb, not-true}
+use Rattle.laws.specs.Lists.{any}
+use Rattle.laws.proofs.Lists.{any-set, any-append}
+use Rattle.laws.proofs.Choice.{and-left, and-right, and-both, or-left, or-right}
+use Rattle.found.specs.First.{firstFrom}
+use Rattle.found.specs.declared.Found.the-variants.{At}
+use Rattle.mine_state.specs.declared.Enemy.{Enemy}
+use Rattle.mine_state.specs.State.{standsAt}
+use Rattle.mine_state.specs.WellFormed.{apart}
+
+eqb-sym : (a b : ℕ) → eqb a b ≡ eqb b a
+eqb-sym a b = go (eqb b a) refl
+  where
+    go : (t : Bool) → eqb b a ≡ t → eqb a b ≡ t
+    go true e = eq-eqb a b (sym (eqb-true b a e))
+    go false e = ne-eqb a b (λ q. eqb-false b a e (sym q))
+
+-- a stands where b does
+abbrev pub with : Enemy → Enemy → Bool
+with b a = standsAt (b .x) (b .y) a
+
+with-sym : (a b : Enemy) → with a b ≡ with b a
+with-sym a b = ap₂ _&&_ (eqb-sym (b .x) (a .x)) (eqb-sym (b .y) (a .y))
+
+-- what holds of none of a list and of none of one more
+pub any-last : (f : Enemy → Bool) (p : List Enemy) (v : Enemy) → any f (p ++ (v ∷ [])) ≡ false → (any f p ≡ false) × (f v ≡ false)
+any-last f p v n =
+    let q = sym (any-append f p (v ∷ [])) ∙ n in
+    (or-left (any f p) (f v || false) q, or-left (f v) false (or-right (any f p) (f v || false) q))
+
+pub apart-head : (e : Enemy) (l : List Enemy) → apart (e ∷ l) ≡ true → any (with e) l ≡ false
+apart-head e l a = not-true (any (with e) l) (and-left (not (any (with e) l)) (apart l) a)
+
+pub apart-tail : (e : Enemy) (l : List Enemy) → apart (e ∷ l) ≡ true → apart l ≡ true
+apart-tail e l a = and-right (not (any (with e) l)) (apart l) a
+
+-- a creature laid into a slot, where no other stands on its cell
+pub apart-set : (l : List Enemy) (i : ℕ) (v : Enemy) → apart l ≡ true → any (with v) l ≡ false → apart (set l i v) ≡ true
+apart-set [] i v a n = a
+apart-set (e ∷ l) zero v a n = rw (or-right (with v e) (any (with v) l) n) (apart-tail e l a)
+apart-set (e ∷ l) (suc i) v a n =
+    let off = with-sym e v ∙ or-left (with v e) (any (with v) l) n in
+    rw (any-set (with e) l i v (apart-head e l a) off) (apart-set l i v (apart-tail e l a) (or-right (with v e) (any (with v) l) n))
+
+-- the last of a list stands apart from those before it
+pub apart-last : (p : List Enemy) (v : Enemy) → apart (p ++ (v ∷ [])) ≡ true → (apart p ≡ true) × (any (with v) p ≡ false)
+apart-last [] v a = (refl, refl)
+apart-last (e ∷ p) v a =
+    let none = any-last (with e) p v (apart-head e (p ++ (v ∷ [])) a) in
+    let rest = apart-last p v (apart-tail e (p ++ (v ∷ [])) a) in
+    (rw (none .0) (rest .0), rw (with-sym v e ∙ none .1) (rest .1))
+
+-- whoever is found on a cell is the only one there: where it goes, and v takes its slot, nobody is left
+found-least : (test : Enemy → Bool) (k i : ℕ) (l : List Enemy) → firstFrom test k l ≡ At i → k ≤ i
+found-least test k i [] e = let z : _≡_ {A = ℕ} 0 1 = cc in omega arith
+found-least test k i (a ∷ l) e = go (test a) (found-least test (k + 1) i l) e
+  where
+    go : (b : Bool) → (firstFrom test (k + 1) l ≡ At i → k + 1 ≤ i) → cond b (At k) (firstFrom test (k + 1) l) ≡ At i → k ≤ i
+    go true f q = let z : k ≡ i = cc in omega arith
+    go false f q = omega (arith, f q)
+
+there : (x y : ℕ) (d : Enemy) → standsAt x y d ≡ true → (x ≡ d .x) × (y ≡ d .y)
+there x y d q =
+    (sym (eqb-true (d .x) x (and-left (eqb (d .x) x) (eqb (d .y) y) q)), sym (eqb-true (d .y) y (and-right (eqb (d .x) x) (eqb (d .y) y) q)))
+
+pub found-gone : (x y k j : ℕ) (p : List Enemy) (v : Enemy) → apart (p ++ (v ∷ [])) ≡ true → firstFrom (standsAt x y) k (p ++ (v ∷ [])) ≡ At (k + j) → any (standsAt x y) (set p j v) ≡ false
+found-gone x y k j [] v a e = refl
+found-gone x y k zero (d ∷ p) v a e = go (standsAt x y d) refl e
+  where
+    go : (b : Bool) → standsAt x y d ≡ b → cond b (At k) (firstFrom (standsAt x y) (k + 1) (p ++ (v ∷ []))) ≡ At (k + 0) → (standsAt x y v || any (standsAt x y) p) ≡ false
+    go true q e =
+        let w = there x y d q in
+        let n = any-last (with d) p v (apart-head d (p ++ (v ∷ [])) a) in
+        rw (w .0, w .1, n .1) (n .0)
+    go false q e = absurd (let h = found-least (standsAt x y) (k + 1) (k + 0) (p ++ (v ∷ [])) e in omega arith)
+found-gone x y k (suc j) (d ∷ p) v a e =
+    go (standsAt x y d) e (λ q. found-gone x y (k + 1) j p v (apart-tail d (p ++ (v ∷ [])) a) q)
+  where
+    go : (b : Bool) → cond b (At k) (firstFrom (standsAt x y) (k + 1) (p ++ (v ∷ []))) ≡ At (k + suc j) → (firstFrom (standsAt x y) (k + 1) (p ++ (v ∷ [])) ≡ At (k + 1 + j) → any (standsAt x y) (set p j v) ≡ false) → (b || any (standsAt x y) (set p j v)) ≡ false
+    go true e f = absurd (let z : k ≡ k + suc j = cc in omega arith)
+    go false e f = let z : k + suc j ≡ k + 1 + j = omega arith in f (e ∙ ap At z)
