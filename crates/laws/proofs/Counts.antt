@@ -1,14 +1,16 @@
 -- How a store changes a count. Assumes nothing.
 use mathlib.Core.Bool.{Bool, true, false, cond}
-use mathlib.Core.List.{List, [], _∷_}
+use mathlib.Core.List.{List, [], _∷_, _++_}
 use mathlib.Core.Logic.{⊎-elim}
 use mathlib.Core.Path.{_≡_, refl, sym, _∙_, ap}
 use Prim.Native.Nat.{ℕ, zero, suc, _+_, _≤_, _<_}
 use native.Mathlib.Nat.{le-of-suc-le-suc, not-suc-le-zero}
+use native.Mathlib.Numerals.{add-one}
 use native.Mathlib.Omega.{arith}
 use borrow.Author.Tests.{eq-eqb, ne-eqb}
 use lib.Dec.{eqb}
-use lib.ListN.{length, getD, set}
+use lib.ListN.{length, getD, set, take}
+use lib.Seq.{take-suc}
 use Rattle.laws.specs.Lists.{count, bit, tally}
 use Rattle.laws.proofs.Choice.{same?}
 
@@ -59,6 +61,22 @@ pub count-le : {A : Type 0} (f : A → Bool) (l : List A) → count f l ≤ leng
 count-le f [] = omega arith
 count-le f (x ∷ l) = count-step (f x) (count f l) (length l) (count-le f l)
 
+-- a count over one more element of a list
+pub count-append : {A : Type 0} (f : A → Bool) (l m : List A) → count f (l ++ m) ≡ count f l + count f m
+count-append f [] m = omega arith
+count-append f (x ∷ l) m = carry-more (f x) (count f (l ++ m)) (count f l) (count f m) (count-append f l m)
+  where
+    carry-more : (b : Bool) (n a c : ℕ) → n ≡ a + c → cond b (suc n) n ≡ cond b (suc a) a + c
+    carry-more true n a c e = omega arith
+    carry-more false n a c e = e
+
+pub count-take : {A : Type 0} (f : A → Bool) (l : List A) (i : ℕ) (d : A) → i < length l → count f (take (i + 1) l) ≡ count f (take i l) + bit (f (getD l i d))
+count-take f l i d h = rw (add-one i, take-suc l i d h, count-append f (take i l) (getD l i d ∷ [])) (ap (λ (n : ℕ). count f (take i l) + n) (one (f (getD l i d))))
+  where
+    one : (b : Bool) → cond b 1 0 ≡ bit b
+    one true = refl
+    one false = refl
+
 -- a store over a takes one off a's tally, and one of b over something else adds one to b's
 pub tally-le : (v : ℕ) (l : List ℕ) → tally v l ≤ length l
 unfolding tally
@@ -82,6 +100,17 @@ unfolding tally
 tally-none v [] n = refl
 tally-none v (x ∷ l) n = rw (ne-eqb x v (n 0)) (tally-none v l (λ c e. n (suc c) e))
 
+-- a number that is somewhere has one
+pub tally-some : (v : ℕ) (l : List ℕ) (c d : ℕ) → c < length l → getD l c d ≡ v → 0 < tally v l
+unfolding tally
+tally-some v [] c d h e = absurd (not-suc-le-zero h)
+tally-some v (x ∷ l) zero d h e = rw (eq-eqb x v e) (omega arith)
+tally-some v (x ∷ l) (suc c) d h e = up (eqb x v) (count (λ y. eqb y v) l) (tally-some v l c d (le-of-suc-le-suc h) e)
+  where
+    up : (b : Bool) (n : ℕ) → 0 < n → 0 < cond b (suc n) n
+    up true n h = omega arith
+    up false n h = h
+
 -- two lists that pass their tests at the same places have the same count
 pub count-same : {A B : Type 0} (f : A → Bool) (g : B → Bool) (l : List A) (m : List B) (d : A) (e : B) → length l ≡ length m → ((c : ℕ) → c < length l → f (getD l c d) ≡ g (getD m c e)) → count f l ≡ count g m
 count-same f g [] [] d e h s = refl
@@ -91,7 +120,8 @@ count-same f g (x ∷ l) (y ∷ m) d e h s =
     let i = count-same f g l m d e (omega arith) (λ c k. s (suc c) (omega arith)) in
     rw (s 0 (omega arith), i)
 
-eqb-iff : (x a y b : ℕ) → (x ≡ a → y ≡ b) → (y ≡ b → x ≡ a) → eqb x a ≡ eqb y b
+-- two equations that follow from each other are one test
+pub eqb-iff : (x a y b : ℕ) → (x ≡ a → y ≡ b) → (y ≡ b → x ≡ a) → eqb x a ≡ eqb y b
 eqb-iff x a y b f g = ⊎-elim (λ e. eq-eqb x a e ∙ sym (eq-eqb y b (f e))) (λ n. ne-eqb x a n ∙ sym (ne-eqb y b (λ e. n (g e)))) (same? x a)
 
 pub tally-same : (a b : ℕ) (l m : List ℕ) (d e : ℕ) → length l ≡ length m → ((c : ℕ) → (getD l c d ≡ a → getD m c e ≡ b) × (getD m c e ≡ b → getD l c d ≡ a)) → tally a l ≡ tally b m

@@ -4,3 +4,5 @@ pub mod Counts
 pub mod Folds
 pub mod Table
 pub mod Below
+pub mod Filter
+pub mod Zip

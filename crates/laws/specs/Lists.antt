@@ -30,6 +30,11 @@ module _ {A : Type 0} where
   count f [] = zero
   count f (x ∷ xs) = cond (f x) (suc (count f xs)) (count f xs)
 
+  -- the elements that pass the test, in order
+  abbrev pub filter : (A → Bool) → List A → List A
+  filter f [] = []
+  filter f (x ∷ xs) = cond (f x) (x ∷ filter f xs) (filter f xs)
+
   -- the first n values of f
   unfoldable pub table : ℕ → (ℕ → A) → List A
   table zero f = []
