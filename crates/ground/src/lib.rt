@@ -2,7 +2,7 @@
 ghost use mathlib.Core.Path.{_≡_};
 ghost use lib.ListN.{length};
 ghost use Rattle.laws.specs.Lists.{tally};
-ghost use Rattle.ground.specs.Cells.{CN, cellAt, leftOf, rightOf, upOf, downOf, blackAt, onBorder, blackCount, standsAt};
+ghost use Rattle.ground.specs.Cells.{CN, cellAt, leftOf, rightOf, upOf, downOf, blackAt, onBorder, blackCount, cellOf, standsAt};
 
 pub const CW: usize = 64;
 
@@ -25,6 +25,13 @@ pub struct Mover {
     pub y: u8,
     pub vx: i8,
     pub vy: i8,
+}
+
+// The cell of a creature.
+pub fn cell_of(e: Mover) -> usize
+    ensures { λ r. ⌜ r ≡ cellOf e ⌝ }
+{
+    (e.y as usize) * CW + (e.x as usize)
 }
 
 // The creature stands at (x, y).

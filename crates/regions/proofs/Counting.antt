@@ -1,21 +1,20 @@
 -- What holds between two searches: the regions that begin before s have their labels and sizes, and no other cell has a label. Assumes nothing.
-use mathlib.Core.Path.{_≡_, refl, sym, ap, ap₂, subst, _∙_}
-use mathlib.Core.List.{List, [], _∷_, _++_, map, map-append}
-use mathlib.Core.Logic.{_⊎_, inl, inr, ⊎-elim}
+use mathlib.Core.Path.{_≡_, refl, sym, ap, subst, _∙_}
+use mathlib.Core.List.{List, [], _∷_, map, map-append}
+use mathlib.Core.Logic.{⊎-elim}
 use Prim.Native.Nat.{ℕ, zero, suc, _+_, _≤_, _<_, min}
 use native.Mathlib.Nat.{le-antisymm}
 use native.Mathlib.Numerals.{add-one}
 use native.Mathlib.Omega.{arith}
-use lib.ListN.{length, getD, set, take, replicate, length-set, length-replicate, getD-replicate}
-use lib.Seq.{take-suc, take-suc-set, take-all, take-take}
-use Rattle.laws.specs.Lists.{tally}
+use lib.ListN.{length, getD, set, take, replicate, length-set, length-replicate}
+use lib.Seq.{take-suc, take-suc-set, take-all}
 use Rattle.laws.proofs.Choice.{below?, same?}
 use Rattle.laws.proofs.Counts.{tally-same, tally-le}
 use Rattle.ground.specs.Cells.{CN}
-use Rattle.joined.specs.Joined.{Black, Joined, here, Right}
-use Rattle.joined.proofs.Joined.{black-in, black-last, right-le, right-same, right-root, right-joined, right-black}
+use Rattle.joined.specs.Joined.{Black, Right}
+use Rattle.joined.proofs.Joined.{right-le, right-same, right-root, right-joined, right-black}
 use Rattle.joined.proofs.Labels.{labels}
-use Rattle.regions.specs.Regions.{MAX-COMP, rootsFrom, counted, cellsIn, numbers, Labelled}
+use Rattle.regions.specs.Regions.{MAX-COMP, rootsFrom, counted, cellsIn, Labelled}
 use Rattle.regions.specs.Seeking.{Ready, Sought, Cleared}
 use Rattle.regions.proofs.Rank.{rank, number, tag, rank-root, rank-pass, rank-mono, rank-less, tag-below, tag-above, number-in, number-past, number-none}
 use Rattle.regions.proofs.Numbers.{labels-are, root-at, roots-many, counted-length}

@@ -1,12 +1,11 @@
 -- Regions are counted by their earliest cell, row by row, up to a limit. Of a grid, L is the right labelling: each black cell's earliest cell.
 use mathlib.Core.Path.{_≡_}
-use mathlib.Core.Bool.{Bool, true, false, cond}
+use mathlib.Core.Bool.{cond}
 use mathlib.Core.List.{List, [], _∷_, map}
-use Prim.Native.Nat.{ℕ, zero, suc, _≤_}
+use Prim.Native.Nat.{ℕ, zero, suc}
 use lib.Dec.{eqb}
-use lib.ListN.{length, take, replicate}
+use lib.ListN.{length, take}
 use Rattle.laws.specs.Lists.{tally}
-use Rattle.ground.specs.Cells.{CN}
 use Rattle.joined.proofs.Labels.{labels}
 
 -- up to 48
