@@ -6,4 +6,4 @@ pub mod GravityKeeps
 pub mod GravitySound
 pub mod GravityLoops
 pub mod GravityLent
-pub mod GravityCases
+pub mod Cases

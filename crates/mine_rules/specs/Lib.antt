@@ -3,5 +3,5 @@ pub mod Load
 pub mod Move
 pub mod Gravity
 pub mod Falls
-pub mod GravityCases
 pub mod Tick
+pub mod Cases

@@ -1,4 +1,4 @@
--- P4, P5, P6 and P8 of document 01: one tick on small mines.
+-- P4 to P8 of document 01, on small mines.
 use mathlib.Core.Bool.{true, false}
 use mathlib.Core.List.{_∷_}
 use mathlib.Core.Path.{_≡_}
@@ -6,9 +6,11 @@ use Prim.Native.Nat.{ℕ}
 use lib.ListN.{set, replicate}
 use Rattle.mine_state.specs.declared.Mine.{Mine}
 use Rattle.mine_state.specs.declared.Enemy.{Enemy}
-use Rattle.mine_state.specs.State.{AREA, MAX-ENEMIES, EMPTY, WALL, BOULDER, place, blankSlot}
-use Rattle.mine_state.specs.Change.{withMarks, withPlayer, withCell, withCreatures, killed}
+use Rattle.mine_state.specs.State.{AREA, MAX-ENEMIES, EMPTY, WALL, BOULDER, COIN, place, blankSlot}
+use Rattle.mine_state.specs.Change.{withMarks, withPlayer, withCell, withCreatures, withCoins, killed}
 use Rattle.mine_state.specs.WellFormed.{wellFormed}
+use Rattle.mine_rules.specs.Ways.{RIGHT}
+use Rattle.mine_rules.specs.Move.{moved}
 use Rattle.mine_rules.specs.Gravity.{gravityOf}
 
 -- an empty mine without creatures, the player at (1,1)
@@ -46,6 +48,32 @@ toLeft = withCell (withCell (withCell (withCell (withCell bare 5 5 BOULDER) 5 6 
 pub record P6 : Type 0 where
   pub right : wellFormed toLeft ≡ true
   pub ends : gravityOf toLeft ≡ withMark (withCell (withCell toLeft 5 5 EMPTY) 4 5 BOULDER) 4 5
+
+-- both sides open
+abbrev pub toBoth : Mine
+toBoth = withCell (withCell (withCell (withCell (withCell bare 5 5 BOULDER) 5 6 BOULDER) 5 7 WALL) 4 7 WALL) 6 7 WALL
+
+-- left first
+pub record Sides : Type 0 where
+  pub right : wellFormed toBoth ≡ true
+  pub ends : gravityOf toBoth ≡ withMark (withCell (withCell toBoth 5 5 EMPTY) 4 5 BOULDER) 4 5
+
+-- a boulder on a wall loses its mark
+abbrev pub onWall : Mine
+onWall = withCell (withCell bare 5 5 BOULDER) 5 6 WALL
+
+pub record Rest : Type 0 where
+  pub right : wellFormed onWall ≡ true
+  pub ends : gravityOf (withMark onWall 5 5) ≡ onWall
+
+-- a marked coin at (5,5) beside the player
+abbrev pub coinBeside : Mine
+coinBeside = withMark (withPlayer (withCell bare 5 5 COIN) 4 5) 5 5
+
+-- walked into: the mark stays on the empty cell
+pub record P7 : Type 0 where
+  pub right : wellFormed coinBeside ≡ true
+  pub stays : moved coinBeside RIGHT ≡ withMark (withPlayer (withCoins bare 1) 5 5) 5 5
 
 -- a marked boulder at (5,5) over the first of three creatures
 abbrev pub creatureA : Enemy

@@ -1,9 +1,11 @@
--- The cases of a tick, computed. Assumes nothing.
+-- The cases, computed. Assumes nothing.
 use mathlib.Core.Path.{refl}
 use Rattle.mine_state.specs.State.{emptyAt, freeAt}
 use Rattle.mine_state.specs.WellFormed.{cellsOk, creaturesOk, numbersOk, wellFormed}
+use Rattle.mine_rules.specs.Ways.{nextCell}
+use Rattle.mine_rules.specs.Move.{met, moved}
 use Rattle.mine_rules.specs.Gravity.{carried, rested, without, overPlayer, overCreature, overEmpty, rolled, overOther, cellFall, rowFall, gravityOf}
-use Rattle.mine_rules.specs.GravityCases.{P4, P5, P6, P8}
+use Rattle.mine_rules.specs.Cases.{P4, P5, P6, Sides, Rest, P7, P8}
 
 pub p4 : P4
 unfolding wellFormed cellsOk creaturesOk numbersOk emptyAt freeAt carried rested without overPlayer overCreature overEmpty rolled overOther cellFall rowFall gravityOf
@@ -16,6 +18,18 @@ p5 = record { right = refl; ends = refl }
 pub p6 : P6
 unfolding wellFormed cellsOk creaturesOk numbersOk emptyAt freeAt carried rested without overPlayer overCreature overEmpty rolled overOther cellFall rowFall gravityOf
 p6 = record { right = refl; ends = refl }
+
+pub sides : Sides
+unfolding wellFormed cellsOk creaturesOk numbersOk emptyAt freeAt carried rested without overPlayer overCreature overEmpty rolled overOther cellFall rowFall gravityOf
+sides = record { right = refl; ends = refl }
+
+pub rest : Rest
+unfolding wellFormed cellsOk creaturesOk numbersOk emptyAt freeAt carried rested without overPlayer overCreature overEmpty rolled overOther cellFall rowFall gravityOf
+rest = record { right = refl; ends = refl }
+
+pub p7 : P7
+unfolding wellFormed cellsOk creaturesOk numbersOk emptyAt nextCell met moved
+p7 = record { right = refl; stays = refl }
 
 pub p8 : P8
 unfolding wellFormed cellsOk creaturesOk numbersOk emptyAt freeAt carried rested without overPlayer overCreature overEmpty rolled overOther cellFall rowFall gravityOf
