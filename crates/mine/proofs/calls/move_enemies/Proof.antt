@@ -1,0 +1,28 @@
+-- `mine::move_enemies` meets its contract. Assumes nothing.
+use borrow.Author.Needs.{needs}
+use Rattle.mine_rules.specs.Tick.{ticked}
+use Rattle.mine_state.proofs.Facts.{sound}
+use Rattle.mine.specs.Calls.{tickCall}
+use Rattle.mine.proofs.Accepted.{accepted, turned-away, let-in}
+use Rattle.mine.proofs.calls.move_enemies.Statement.{statement}
+use Rattle.mine.proofs.calls.move_enemies.Tie as tie
+
+check-requires : tie.Need-check-requires
+check-requires c κs = search needs
+
+returns : tie.Need-returns
+unfolding tickCall
+returns c = let m = c .before .before .args .m in turned-away m (c .before .check .ensures) (ticked m) (c .if1 .taken)
+
+move-enemies-requires : tie.Need-move-enemies-requires
+move-enemies-requires c κs = accepted _ (c .before .check .ensures) (c .if1 .left)
+
+returns-2 : tie.Need-returns-2
+unfolding tickCall
+returns-2 c =
+    let m = c .before .before .before .args .m in
+    let k = c .before .before .check in
+    let-in m (k .ensures) (ticked m) (c .«move-enemies» .ensures) (c .before .if1 .left)
+
+pub move-enemies-spec : {M : Type 1} → statement M
+move-enemies-spec = tie.close (tie.spec check-requires returns move-enemies-requires returns-2)
