@@ -1,0 +1,149 @@
+//! Document 01's public calls on a current state: refused by [`check`], answered by the
+//! original. The question, the page, the ground report and the start of the record are not
+//! in the original and are written from document 01.
+//!
+//! [`check`]: crate::check
+
+pub mod cutter;
+pub mod mine;
+
+use crate::bytes::Field;
+use crate::check::Refusal;
+use crate::games::Answer;
+use crate::stand_ins::catcard_app::screen::{FRAME, STALE, WIDTH};
+use crate::state::{Cutter, Enemy, Game, Mine, Mover, Pace, State};
+
+#[derive(Clone, Debug, PartialEq, Eq)]
+pub enum Call {
+    Load,
+    Move(u8),
+    Gravity,
+    MoveEnemies,
+    MinePass { time: u32, keys: Vec<u8> },
+    MinePicture(u16),
+    MineWho { x: usize, y: usize, list: Vec<Enemy> },
+    NewRound(Vec<u8>),
+    Direction(u8),
+    Step,
+    StepEnemies,
+    Respawn,
+    NewLevel(Vec<u8>),
+    CutterPass { time: u32, keys: Vec<u8>, draws: Vec<u8> },
+    CutterPicture(u16),
+    Ground,
+    CutterWho { x: usize, y: usize, list: Vec<Mover> },
+    Start(u32),
+    Page { number: usize, frame: Vec<u8> },
+}
+
+/// What a call gives besides the state and the record. A refusal of 0 is none.
+#[derive(Clone, Debug, PartialEq, Eq)]
+pub struct Outcome {
+    pub refusal: Refusal,
+    pub answer: Answer,
+    pub result: Vec<u8>,
+}
+
+impl Outcome {
+    fn new(answer: Result<Answer, Refusal>, result: Vec<u8>) -> Self {
+        Outcome {
+            refusal: answer.err().unwrap_or(0),
+            answer: answer.unwrap_or(Answer::GoingOn),
+            result,
+        }
+    }
+
+    fn done(done: Result<(), Refusal>) -> Self {
+        Self::new(done.map(|()| Answer::GoingOn), Vec::new())
+    }
+
+    fn read(result: Vec<u8>) -> Self {
+        Self::new(Ok(Answer::GoingOn), result)
+    }
+
+    /// A picture into a lent frame of this length.
+    fn picture(length: u16, render: impl FnOnce(&mut [u8]) -> Result<(), Refusal>) -> Self {
+        let mut frame = vec![STALE; usize::from(length)];
+        let done = render(&mut frame);
+        Outcome { result: frame, ..Self::done(done) }
+    }
+}
+
+impl State {
+    /// Makes a call; `None` where it belongs to the other game.
+    pub fn make(&mut self, call: &Call) -> Option<Outcome> {
+        Some(match call {
+            Call::Load => {
+                self.game = Game::Mine(Box::new(mine::load()));
+                Outcome::done(Ok(()))
+            }
+            Call::NewRound(draws) => Outcome::done(
+                cutter::new_round(draws).map(|c| self.game = Game::Cutter(Box::new(c))),
+            ),
+            Call::MineWho { x, y, list } => found(list.iter().position(|e| (e.x, e.y) == (*x, *y))),
+            Call::CutterWho { x, y, list } => {
+                let place = |e: &Mover| (usize::from(e.x), usize::from(e.y));
+                found(list.iter().position(|e| place(e) == (*x, *y)))
+            }
+            Call::Start(time) => {
+                self.pace = Pace::start(*time);
+                Outcome::done(Ok(()))
+            }
+            Call::Page { number, frame } => Outcome::read(page(frame, *number).to_vec()),
+            _ => match &mut self.game {
+                Game::Mine(m) => on_mine(m, &mut self.pace, call)?,
+                Game::Cutter(c) => on_cutter(c, &mut self.pace, call)?,
+            },
+        })
+    }
+}
+
+fn on_mine(m: &mut Mine, pace: &mut Pace, call: &Call) -> Option<Outcome> {
+    Some(match call {
+        Call::Move(dir) => Outcome::done(mine::step_player(m, *dir)),
+        Call::Gravity => Outcome::done(mine::gravity(m)),
+        Call::MoveEnemies => Outcome::done(mine::move_enemies(m)),
+        Call::MinePass { time, keys } => Outcome::new(mine::pass(m, keys, *time, pace), Vec::new()),
+        Call::MinePicture(length) => Outcome::picture(*length, |f| mine::render(m, f)),
+        _ => return None,
+    })
+}
+
+fn on_cutter(c: &mut Cutter, pace: &mut Pace, call: &Call) -> Option<Outcome> {
+    Some(match call {
+        Call::Direction(dir) => Outcome::done(cutter::direction(c, *dir)),
+        Call::Step => Outcome::done(cutter::step_player(c)),
+        Call::StepEnemies => Outcome::done(cutter::step_enemies(c)),
+        Call::Respawn => Outcome::done(cutter::respawn(c)),
+        Call::NewLevel(draws) => Outcome::done(cutter::new_level(c, draws)),
+        Call::CutterPass { time, keys, draws } => {
+            Outcome::new(cutter::pass(c, keys, draws, *time, pace), Vec::new())
+        }
+        Call::CutterPicture(length) => Outcome::picture(*length, |f| cutter::render(c, f)),
+        Call::Ground => {
+            let report = cutter::ground_report(c);
+            let mut result = Vec::new();
+            report.unwrap_or_default().map(|n| n as u16).put(&mut result);
+            Outcome { result, ..Outcome::done(report.map(|_| ())) }
+        }
+        _ => return None,
+    })
+}
+
+/// An index in eight bytes, or nothing for nobody.
+fn found(index: Option<usize>) -> Outcome {
+    let mut result = Vec::new();
+    if let Some(i) = index {
+        i.put(&mut result);
+    }
+    Outcome::read(result)
+}
+
+/// A page of a whole frame; anything else has the empty part.
+pub fn page(frame: &[u8], number: usize) -> &[u8] {
+    if frame.len() == FRAME && number < FRAME / WIDTH {
+        &frame[number * WIDTH..][..WIDTH]
+    } else {
+        &[]
+    }
+}

@@ -1,0 +1,192 @@
+//! The corners: a short trace with every call, every refusal and every case that was ever
+//! in doubt, each under a name.
+
+use super::variations::{Variation, causes};
+use super::{
+    BAD_FRAMES, battery, cutter_corners, cutter_variations, mine_corners, mine_variations,
+    sequences,
+};
+use crate::calls::Call;
+use crate::check::{CELLS_BAD, CREATURES_BAD, NUMBERS_BAD, PLAYER_BAD};
+use crate::stand_ins::catcard_app::screen::FRAME;
+use crate::state::*;
+use crate::trace::Trace;
+
+pub const PICTURE: u16 = FRAME as u16;
+/// A frame for pictures that are refused anyway.
+const SMALL: u16 = 4;
+
+/// A trace with a name for each stretch of it.
+pub struct Corners {
+    pub trace: Trace,
+    /// The first entry of each corner, and its name.
+    pub names: Vec<(usize, String)>,
+}
+
+impl Corners {
+    fn new() -> Self {
+        Corners { trace: sequences::start(), names: Vec::new() }
+    }
+
+    /// Calls from this state and record.
+    pub fn paced(&mut self, name: &str, game: Game, pace: Pace, calls: Vec<Call>) {
+        self.names.push((self.trace.entries, name.to_string()));
+        self.trace.set(State { game, pace });
+        self.go_on(calls);
+    }
+
+    pub fn mine(&mut self, name: &str, m: &Mine, calls: Vec<Call>) {
+        self.paced(name, Game::Mine(Box::new(m.clone())), Pace::default(), calls);
+    }
+
+    pub fn cutter(&mut self, name: &str, c: &Cutter, calls: Vec<Call>) {
+        self.paced(name, Game::Cutter(Box::new(c.clone())), Pace::default(), calls);
+    }
+
+    pub fn go_on(&mut self, calls: Vec<Call>) {
+        for call in calls {
+            self.trace.call(call);
+        }
+    }
+}
+
+/// All of it.
+pub fn corners() -> Corners {
+    let mut out = Corners::new();
+    mine_corners::corners(&mut out);
+    cutter_corners::corners(&mut out);
+    common(&mut out);
+    mine_boundaries(&mut out);
+    cutter_boundaries(&mut out);
+    out
+}
+
+/// The calls that belong to neither game.
+fn common(out: &mut Corners) {
+    let mine = mine_variations::base();
+    let cutter = cutter_variations::base();
+    let pages = [(0, FRAME), (7, FRAME), (8, FRAME), (usize::MAX, FRAME), (1 << 32, FRAME)];
+    let short = [(0, 0), (0, 128), (7, FRAME - 1), (7, FRAME + 1)];
+    let page = |&(number, length): &(usize, usize)| {
+        let frame = (0..length).map(|i| (i / 128 * 16 + i % 16) as u8).collect();
+        Call::Page { number, frame }
+    };
+    out.mine("pages", &mine, pages.iter().chain(&short).map(page).collect());
+
+    let start = [0, u32::MAX, u32::MAX, 4_294_967_000];
+    out.mine("start of the record", &mine, start.map(Call::Start).to_vec());
+
+    let list = mine.enemies.to_vec();
+    let who = |x, y, n: usize| Call::MineWho { x, y, list: list[..n].to_vec() };
+    let twice = list.iter().chain(&list).copied().collect();
+    let questions = vec![
+        who(7, 7, 8),
+        who(11, 3, 3),
+        who(11, 3, 2),
+        who(0, 0, 8),
+        who(usize::MAX, 7, 8),
+        who((1 << 32) + 7, 7, 8),
+        who(7, 7, 0),
+        Call::MineWho { x: 9, y: 9, list: twice },
+    ];
+    out.mine("question of Mine", &mine, questions);
+
+    let list = cutter.enemies.to_vec();
+    let who = |x, y, n: usize| Call::CutterWho { x, y, list: list[..n].to_vec() };
+    let long = vec![Mover { x: 255, y: 255, vx: -128, vy: 127 }; 300];
+    let questions = vec![
+        who(10, 10, 16),
+        who(20, 20, 16),
+        who(266, 10, 16),
+        who(10, 10, 0),
+        Call::CutterWho { x: 255, y: 255, list: long.clone() },
+        Call::CutterWho { x: 511, y: 255, list: long },
+    ];
+    out.cutter("question of Cutter", &cutter, questions);
+
+    let frames = BAD_FRAMES;
+    out.mine("Mine frames refused", &mine, frames.map(Call::MinePicture).to_vec());
+    out.cutter("Cutter frames refused", &cutter, frames.map(Call::CutterPicture).to_vec());
+    let commands = [4, 5, 127, 128, 255];
+    out.mine("Mine commands refused", &mine, commands.map(Call::Move).to_vec());
+    out.cutter("Cutter commands refused", &cutter, commands.map(Call::Direction).to_vec());
+}
+
+/// The first variation with each refusal of a state, in pairs.
+fn pairs<S>(variations: &[Variation<S>]) -> Vec<[&Variation<S>; 2]> {
+    let first = |refusal| variations.iter().find(|v| v.refusal == refusal);
+    let each: Vec<_> = [CELLS_BAD, PLAYER_BAD, CREATURES_BAD, NUMBERS_BAD]
+        .into_iter()
+        .map(|refusal| first(refusal).expect("a variation for each refusal"))
+        .collect();
+    let below = |j: usize| (0..j).map(move |i| (i, j));
+    (0..each.len()).flat_map(below).map(|(i, j)| [each[i], each[j]]).collect()
+}
+
+/// The state that each variation makes of a base, with its name.
+fn varied<S>(base: fn() -> S, variations: &[Variation<S>]) -> impl Iterator<Item = (&str, S)> {
+    variations.iter().map(move |v| {
+        let mut state = base();
+        v.apply(&mut state);
+        (v.name.as_str(), state)
+    })
+}
+
+fn mine_boundaries(out: &mut Corners) {
+    let pace = Pace::default();
+    let causes = causes(mine_variations::variations());
+    for (name, m) in varied(mine_variations::base, &causes) {
+        out.mine(&format!("Mine refused: {name}"), &m, battery::mine(&pace, SMALL));
+    }
+    for [one, two] in pairs(&causes) {
+        let mut m = mine_variations::base();
+        one.apply(&mut m);
+        two.apply(&mut m);
+        let name = format!("Mine order: {} and {}", one.name, two.name);
+        out.mine(&name, &m, battery::mine(&pace, PICTURE));
+    }
+}
+
+fn cutter_boundaries(out: &mut Corners) {
+    let pace = Pace::default();
+    let base = causes(cutter_variations::variations());
+    let drawing = causes(cutter_variations::drawing_variations());
+    let on_base = varied(cutter_variations::base, &base);
+    for (name, c) in on_base.chain(varied(cutter_variations::drawing, &drawing)) {
+        out.cutter(&format!("Cutter refused: {name}"), &c, battery::cutter(&c, &pace, SMALL));
+    }
+    for [one, two] in pairs(&base) {
+        let mut c = Cutter { won_level: true, ..cutter_variations::base() };
+        one.apply(&mut c);
+        two.apply(&mut c);
+        let name = format!("Cutter order: {} and {}", one.name, two.name);
+        out.cutter(&name, &c, battery::cutter(&c, &pace, PICTURE));
+    }
+}
+
+/// Every variation with every call on it, each from the same state.
+pub fn edges() -> Trace {
+    let mut trace = sequences::start();
+    let pace = Pace { first: 4_294_967_000, second: 7 };
+    let mut each = |game: Game, calls: Vec<Call>| {
+        let state = State { game, pace };
+        trace.set(state.clone());
+        for call in calls {
+            if *trace.state() != state {
+                trace.set(state.clone());
+            }
+            trace.call(call);
+        }
+    };
+    for (_, m) in varied(mine_variations::base, &mine_variations::variations()) {
+        each(Game::Mine(Box::new(m)), battery::mine(&pace, PICTURE));
+    }
+    let base = cutter_variations::variations();
+    let drawing = cutter_variations::drawing_variations();
+    let on_base = varied(cutter_variations::base, &base);
+    for (_, c) in on_base.chain(varied(cutter_variations::drawing, &drawing)) {
+        let calls = battery::cutter(&c, &pace, PICTURE);
+        each(Game::Cutter(Box::new(c)), calls);
+    }
+    trace
+}

@@ -1,0 +1,90 @@
+//! Cutter states made by hand.
+
+use std::ops::Range;
+
+use super::cutter_play::zigzag;
+use crate::games::cutter;
+use crate::state::*;
+
+/// A new round with one creature at (10,10), velocity (1,1).
+pub fn fresh() -> Cutter {
+    cutter::new_round(&[9, 9, 1, 1])
+}
+
+/// A fresh level with a line of this length down from the start, heading down.
+pub fn drawing(length: usize) -> Cutter {
+    let cells: Vec<_> = (1..=length).map(|y| (32, y)).collect();
+    fresh().line(&cells).at((32, length)).heading(DOWN)
+}
+
+/// One step before a closing that leaves so many regions of one cell, row by row.
+pub fn chequers(number: usize) -> Cutter {
+    let mut c = fresh().claimed(1..63, 1..31).peopled(&[]);
+    for i in 0..number {
+        c = c.black(2 + 2 * (i % 30), 3 + 2 * (i / 30));
+    }
+    c.line(&[(32, 1)]).at((32, 1)).heading(UP)
+}
+
+/// One step before the closing of a zigzag over so many double rows.
+pub fn zigzagged(rows: usize) -> Cutter {
+    let mut c = fresh().at((1, 0));
+    let way = zigzag(rows);
+    let (last, before) = way.split_last().expect("a way");
+    for &dir in before {
+        c = c.heading(dir);
+        cutter::step_player(&mut c);
+    }
+    c.heading(*last)
+}
+
+impl Cutter {
+    pub fn at(mut self, (x, y): (usize, usize)) -> Self {
+        (self.px, self.py) = (x, y);
+        self
+    }
+
+    pub fn heading(mut self, dir: u8) -> Self {
+        cutter::direction(&mut self, dir);
+        self
+    }
+
+    /// With line on these cells, trailing.
+    pub fn line(mut self, cells: &[(usize, usize)]) -> Self {
+        for &(x, y) in cells {
+            self.grid[y * CW + x] = LINE;
+        }
+        self.trailing = true;
+        self
+    }
+
+    /// With a rectangle claimed.
+    pub fn claimed(mut self, xs: Range<usize>, ys: Range<usize>) -> Self {
+        for y in ys {
+            self.grid[y * CW..][xs.clone()].fill(CLAIMED);
+        }
+        self
+    }
+
+    pub fn black(mut self, x: usize, y: usize) -> Self {
+        self.grid[y * CW + x] = BLACK;
+        self
+    }
+
+    /// With these creatures and no other.
+    pub fn peopled(mut self, movers: &[(u8, u8, i8, i8)]) -> Self {
+        self.enemies = Default::default();
+        self.count = movers.len();
+        for (slot, &(x, y, vx, vy)) in self.enemies.iter_mut().zip(movers) {
+            *slot = Mover { x, y, vx, vy };
+        }
+        self
+    }
+
+    /// With two creatures on the last of [`chequers`]' cells and one on the first.
+    pub fn peopled_in_order(self, number: usize) -> Self {
+        let i = number - 1;
+        let last = (2 + 2 * (i % 30) as u8, 3 + 2 * (i / 30) as u8);
+        self.peopled(&[(last.0, last.1, 1, 1), (2, 3, 1, 1), (last.0, last.1, -1, 1)])
+    }
+}

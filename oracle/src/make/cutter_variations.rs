@@ -1,0 +1,158 @@
+//! Cutter states with one thing changed.
+
+use super::variations::{FINE, Variation, Variations, off};
+use crate::check::{CELLS_BAD, CREATURES_BAD, LAST_LEVEL, NUMBERS_BAD, PLAYER_BAD};
+use crate::games::cutter;
+use crate::state::*;
+
+const NOT_UNIT: [i8; 5] = [0, 2, -2, 127, -128];
+
+/// A level with some claimed ground inside, the player on the border heading down.
+pub fn base() -> Cutter {
+    let mut c = cutter::new_round(&[9, 9, 1, 1]);
+    for y in 10..20 {
+        c.grid[y * CW + 40..y * CW + 50].fill(CLAIMED);
+    }
+    (c.dx, c.dy) = (0, 1);
+    c.enemies[1] = Mover { x: 20, y: 20, vx: -1, vy: 1 };
+    c.enemies[2] = Mover { x: 10, y: 10, vx: -1, vy: -1 };
+    c.count = 3;
+    c.level = 3;
+    c
+}
+
+/// The same with a line from the border down to the player.
+pub fn drawing() -> Cutter {
+    let mut c = base();
+    for y in 1..5 {
+        c.grid[y * CW + 32] = LINE;
+    }
+    c.py = 4;
+    c.trailing = true;
+    c
+}
+
+/// Variations of [`base`].
+pub fn variations() -> Vec<Variation<Cutter>> {
+    let mut v: Variations<Cutter> = Variations(Vec::new());
+    v.add(FINE, "as it is", |_| {});
+    cells(&mut v);
+    player(&mut v);
+    creatures(&mut v);
+    slots(&mut v);
+    numbers(&mut v);
+    v.0
+}
+
+/// Variations of [`drawing`].
+pub fn drawing_variations() -> Vec<Variation<Cutter>> {
+    let mut v: Variations<Cutter> = Variations(Vec::new());
+    v.add(FINE, "drawing", |_| {});
+    v.add(CELLS_BAD, "line, not trailing", |c| c.trailing = false);
+    v.add(CELLS_BAD, "trailing, no line", |c| {
+        for cell in c.grid.iter_mut().filter(|cell| **cell == LINE) {
+            *cell = BLACK;
+        }
+    });
+    v.add(FINE, "one line cell, under the player", |c| {
+        for y in 1..4 {
+            c.grid[y * CW + 32] = BLACK;
+        }
+    });
+    v.each(PLAYER_BAD, "trailing, player at", &[(32, 0), (32, 5), (45, 15)], |c, place| {
+        (c.px, c.py) = place;
+    });
+    v.add(FINE, "player back on the line", |c| c.py = 2);
+    v.add(CREATURES_BAD, "creature on line", |c| {
+        (c.enemies[0].x, c.enemies[0].y) = (32, 3);
+    });
+    v.each(FINE, "direction", &[(0, 0), (0, -1), (-1, 0), (1, 0)], |c, d| (c.dx, c.dy) = d);
+    v.add(FINE, "dead", |c| c.dead = true);
+    v.0
+}
+
+fn cells(v: &mut Variations<Cutter>) {
+    let codes = [LINE + 1, 4, 128, 255];
+    v.each(CELLS_BAD, "first cell", &codes, |c, code| c.grid[0] = code);
+    v.each(CELLS_BAD, "inner cell", &codes, |c, code| c.grid[5 * CW + 5] = code);
+    v.each(CELLS_BAD, "player's cell", &codes, |c, code| c.grid[32] = code);
+    v.each(CELLS_BAD, "last cell", &codes, |c, code| c.grid[CN - 1] = code);
+    let ring = [0, 1, 63, 64, 127, 1920, 1983, 1984, 1985, 2016, 2047];
+    v.each(CELLS_BAD, "black on the ring at", &ring, |c, cell| c.grid[cell] = BLACK);
+    v.each(CELLS_BAD, "line on the ring at", &[1, 64, 2047], |c, cell| {
+        c.grid[cell] = LINE;
+        c.trailing = true;
+    });
+    v.add(CELLS_BAD, "trailing, no line", |c| c.trailing = true);
+    v.add(CELLS_BAD, "line, not trailing", |c| c.grid[30 * CW + 62] = LINE);
+    v.each(FINE, "inner corner claimed at", &[65, 126, 1921, 1982], |c, cell| {
+        c.grid[cell] = CLAIMED;
+    });
+}
+
+fn player(v: &mut Variations<Cutter>) {
+    v.each(PLAYER_BAD, "px", &off(CW, 32), |c, x| c.px = x);
+    v.each(PLAYER_BAD, "py", &off(CH, 0), |c, y| c.py = y);
+    v.each(PLAYER_BAD, "player on black at", &[(32, 1), (1, 1), (62, 30)], |c, place| {
+        (c.px, c.py) = place;
+    });
+    v.each(FINE, "player at", &[(0, 0), (63, 31), (45, 15)], |c, place| (c.px, c.py) = place);
+    let odd = [-128, -127, -2, 2, 127];
+    v.each(PLAYER_BAD, "dx", &odd, |c, dx| (c.dx, c.dy) = (dx, 0));
+    v.each(PLAYER_BAD, "dy", &odd, |c, dy| c.dy = dy);
+    let both = [(1, 1), (1, -1), (-1, 1), (-1, -1), (-128, -128), (-128, 1), (1, -128), (127, -1)];
+    v.each(PLAYER_BAD, "direction", &both, |c, d| (c.dx, c.dy) = d);
+    v.each(FINE, "direction", &[(0, 0), (0, -1), (1, 0), (-1, 0)], |c, d| (c.dx, c.dy) = d);
+}
+
+fn creatures(v: &mut Variations<Cutter>) {
+    v.each(CREATURES_BAD, "first x", &[0, 63, 64, 74, 138, 255], |c, x| c.enemies[0].x = x);
+    v.each(CREATURES_BAD, "first y", &[0, 31, 32, 42, 138, 255], |c, y| c.enemies[0].y = y);
+    v.each(CREATURES_BAD, "last x", &[0, 63, 64, 255], |c, x| c.enemies[2].x = x);
+    v.each(FINE, "last x", &[1, 62], |c, x| c.enemies[2].x = x);
+    v.each(FINE, "last y", &[1, 30], |c, y| c.enemies[2].y = y);
+    v.add(CREATURES_BAD, "creature on claimed", |c| {
+        (c.enemies[1].x, c.enemies[1].y) = (40, 10);
+    });
+    v.each(CREATURES_BAD, "first vx", &NOT_UNIT, |c, vx| c.enemies[0].vx = vx);
+    v.each(CREATURES_BAD, "last vy", &NOT_UNIT, |c, vy| c.enemies[2].vy = vy);
+    v.each(FINE, "velocity", &[(1, 1), (1, -1), (-1, 1)], |c, (vx, vy)| {
+        (c.enemies[2].vx, c.enemies[2].vy) = (vx, vy);
+    });
+}
+
+fn slots(v: &mut Variations<Cutter>) {
+    let too_many = [MOVERS + 1, MOVERS + 2, (1 << 8) + 3, (1 << 32) + 3, usize::MAX];
+    v.each(CREATURES_BAD, "count", &too_many, |c, count| c.count = count);
+    v.each(CREATURES_BAD, "count less than the slots", &[0, 1, 2], |c, count| c.count = count);
+    v.add(CREATURES_BAD, "count takes a zero slot", |c| c.count = 4);
+    v.each(CREATURES_BAD, "x past the count", &[3, MOVERS - 1], |c, i| c.enemies[i].x = 1);
+    v.each(CREATURES_BAD, "y past the count", &[3, MOVERS - 1], |c, i| c.enemies[i].y = 255);
+    v.each(CREATURES_BAD, "vx past the count", &[3, MOVERS - 1], |c, i| c.enemies[i].vx = -1);
+    v.each(CREATURES_BAD, "vy past the count", &[3, MOVERS - 1], |c, i| c.enemies[i].vy = -128);
+    v.add(FINE, "no creature", |c| {
+        c.enemies = Default::default();
+        c.count = 0;
+    });
+    v.add(FINE, "sixteen creatures on one cell", |c| {
+        c.enemies = [c.enemies[0]; MOVERS];
+        c.count = MOVERS;
+    });
+}
+
+fn numbers(v: &mut Variations<Cutter>) {
+    v.each(FINE, "lives", &[0, 1, 2], |c, lives| c.lives = lives);
+    v.each(NUMBERS_BAD, "lives", &[4, 5, 1 << 8, 1 << 16, u32::MAX], |c, n| c.lives = n);
+    v.each(FINE, "level", &[1, 15, 16, 17, LAST_LEVEL], |c, level| c.level = level);
+    let out = [0, LAST_LEVEL + 1, LAST_LEVEL + 2, 1 << 31, u32::MAX];
+    v.each(NUMBERS_BAD, "level", &out, |c, level| c.level = level);
+    v.each(FINE, "won at level", &[15, 16, LAST_LEVEL - 1, LAST_LEVEL], |c, level| {
+        c.won_level = true;
+        c.level = level;
+    });
+    v.add(FINE, "dead and won at the last level", |c| {
+        c.won_level = true;
+        c.dead = true;
+        c.level = LAST_LEVEL;
+    });
+}

@@ -1,0 +1,277 @@
+//! Traces: deterministic, wide enough, and every state that a call gives is well formed.
+
+use oracle::calls::Call;
+use oracle::check;
+use oracle::games::{Answer, cutter};
+use oracle::make::{corners, sequences};
+use oracle::replay::{Seen, replay, replay_seen};
+use oracle::state::*;
+
+const SEED: u64 = 1;
+const SEQUENCES: usize = 800;
+const MEGABYTE: usize = 1_000_000;
+/// Every call of the format.
+const CALLS: [u8; 19] = [1, 2, 3, 4, 5, 6, 7, 17, 18, 19, 20, 21, 22, 23, 24, 25, 26, 32, 33];
+
+fn random(seed: u64, sequences: usize) -> Vec<u8> {
+    let mut trace = sequences::start();
+    for index in 0..sequences {
+        sequences::sequence(&mut trace, seed, index);
+    }
+    trace.bytes
+}
+
+/// Call, refusal and answer of each entry, read by their places in the header.
+fn headers(mut trace: &[u8]) -> Vec<[u8; 3]> {
+    let mut headers = Vec::new();
+    while let Some(header) = trace.first_chunk::<12>() {
+        let length = |at| usize::from(u16::from_le_bytes([header[at], header[at + 1]]));
+        headers.push([header[0], header[1], header[2]]);
+        trace = &trace[12 + length(4) + length(6) + length(8)..];
+    }
+    headers
+}
+
+#[test]
+fn a_seed_gives_one_trace() {
+    assert_eq!(random(7, 16), random(7, 16));
+    assert_ne!(random(7, 16), random(8, 16));
+}
+
+#[test]
+fn the_corners_have_everything_in_a_megabyte() {
+    let corners = corners::corners();
+    let bytes = corners.trace.bytes;
+    println!("corners: {} names, {} bytes", corners.names.len(), bytes.len());
+    assert!(bytes.len() <= MEGABYTE, "{} bytes", bytes.len());
+    let headers = headers(&bytes);
+    assert_eq!(headers.len(), corners.trace.entries);
+    for call in CALLS {
+        assert!(headers.iter().any(|h| h[0] == call), "no call {call}");
+    }
+    for refusal in 0..=8 {
+        assert!(headers.iter().any(|h| h[1] == refusal), "no refusal {refusal}");
+    }
+    for answer in 0..=4 {
+        assert!(headers.iter().any(|h| h[2] == answer), "no answer {answer}");
+    }
+    let report = replay(bytes.as_slice()).expect("a trace in memory");
+    assert_eq!((report.calls, report.differ), (corners.trace.calls, 0));
+}
+
+#[test]
+fn the_corners_are_what_their_names_say() {
+    let corners = corners::corners();
+    // The first call of each corner stands behind its entry 0.
+    let first = |name: &str| {
+        let (entry, _) = corners.names.iter().find(|(_, n)| n == name).expect(name);
+        let mut found = None;
+        let see = |seen: Seen| {
+            if seen.entry == entry + 1 {
+                found = Some((seen.outcome.answer, seen.before.clone(), seen.after.clone()));
+            }
+        };
+        replay_seen(corners.trace.bytes.as_slice(), see).expect("in memory");
+        found.expect("a call")
+    };
+    let cutter = |state: &State| match &state.game {
+        Game::Cutter(c) => c.clone(),
+        Game::Mine(_) => panic!("a Cutter corner"),
+    };
+    for (name, black, line, won) in [
+        ("a pass at black 465: not won", 465, 0, false),
+        ("a pass at black 464: won, then the next level", 464, 0, true),
+        ("465 with an open line: not won", 465, 1, false),
+        ("464 with an open line: won", 464, 1, true),
+    ] {
+        let (_, before, after) = first(name);
+        let counts = [BLACK, LINE].map(|code| cutter(&before).count_of(code));
+        assert_eq!((counts, cutter(&after).won_level), ([black, line], won), "{name}");
+    }
+    let (answer, before, after) = first("Mine won and dead: won");
+    assert_eq!((answer, before), (Answer::Won, after));
+    let (_, before, after) = first("a zigzag of 63 pockets, the large region uncounted");
+    assert_eq!((cutter(&before).count, cutter(&after).count), (1, 0));
+    for name in ["gravity", "creatures", "the step"] {
+        for mark in [0, 4_294_967_000, u32::MAX] {
+            let start = format!("nearest readings of {name} from mark {mark}");
+            let number = corners.names.iter().filter(|(_, n)| n.starts_with(&start)).count();
+            assert_eq!(number, if name == "creatures" { 4 } else { 2 }, "{start}");
+        }
+    }
+}
+
+#[test]
+fn the_edges_replay() {
+    let trace = corners::edges();
+    let report = replay(trace.bytes.as_slice()).expect("a trace in memory");
+    println!("edges: {} calls, {} bytes", trace.calls, trace.bytes.len());
+    assert_eq!((report.calls, report.differ), (trace.calls, 0));
+}
+
+/// What a trace shows, counted.
+#[derive(Debug, Default)]
+struct Tally {
+    pushes: usize,
+    squashes: usize,
+    falls: usize,
+    wins: usize,
+    deaths: usize,
+    closings: usize,
+    many_regions: usize,
+    ties: usize,
+    walks: usize,
+    respawns: usize,
+    levels: usize,
+    overs: usize,
+    breaches: usize,
+    refusals: [usize; 9],
+}
+
+impl Tally {
+    fn see(&mut self, seen: &Seen) {
+        let refusal = seen.outcome.refusal;
+        self.refusals[usize::from(refusal)] += 1;
+        if refusal != 0 {
+            assert_eq!(seen.before, seen.after);
+            return;
+        }
+        match (&seen.before.game, &seen.after.game) {
+            (Game::Mine(before), Game::Mine(after)) => self.see_mine(seen, before, after),
+            (Game::Cutter(before), Game::Cutter(after)) => self.see_cutter(seen, before, after),
+            _ => {}
+        }
+        let same_call = !matches!(seen.call, Call::MineWho { .. } | Call::CutterWho { .. });
+        if seen.before != seen.after && same_call && !matches!(seen.call, Call::Start(_)) {
+            let checked = match &seen.after.game {
+                Game::Mine(m) => check::mine(m),
+                Game::Cutter(c) => check::cutter(c),
+            };
+            assert_eq!(checked, Ok(()), "after {:?}", seen.call);
+        }
+    }
+
+    fn see_mine(&mut self, seen: &Seen, before: &Mine, after: &Mine) {
+        if matches!(seen.call, Call::Move(_)) && before.px != after.px {
+            let pushed = before.grid[after.py * W + after.px] == BOULDER;
+            self.pushes += usize::from(pushed);
+        }
+        if *seen.call == Call::Gravity {
+            let row = |m: &Mine, y: usize| {
+                m.grid[y * W..][..W].iter().filter(|&&c| c == BOULDER || c == COIN).count()
+            };
+            self.falls += usize::from((0..H).any(|y| row(before, y) != row(after, y)));
+        }
+        self.squashes += usize::from(after.count < before.count && *seen.call != Call::Load);
+        self.wins += usize::from(seen.outcome.answer == Answer::Won);
+        self.deaths += usize::from(seen.outcome.answer == Answer::Dead);
+        if *seen.call != Call::Load {
+            let coins = |m: &Mine| m.coins as usize + m.count_of(COIN);
+            assert_eq!(coins(before), coins(after), "coins, {:?}", seen.call);
+            assert_eq!(before.count_of(BOULDER), after.count_of(BOULDER), "boulders");
+        }
+    }
+
+    fn see_cutter(&mut self, seen: &Seen, before: &Cutter, after: &Cutter) {
+        match seen.call {
+            Call::Step if before.trailing && !after.trailing => self.see_closing(before, after),
+            Call::StepEnemies => self.breaches += usize::from(!before.dead && after.dead),
+            Call::Respawn => self.respawns += 1,
+            Call::CutterPass { .. } => {
+                self.overs += usize::from(seen.outcome.answer == Answer::Over);
+                self.respawns += usize::from(before.dead && !after.dead && after.lives > 0);
+                self.levels += usize::from(after.level == before.level + 1);
+            }
+            _ => {}
+        }
+    }
+
+    fn see_closing(&mut self, before: &Cutter, after: &Cutter) {
+        self.closings += 1;
+        let (nx, ny) =
+            (before.px as isize + before.dx as isize, before.py as isize + before.dy as isize);
+        self.walks += usize::from((after.px as isize, after.py as isize) != (nx, ny));
+        let regions = regions(&before.grid);
+        self.many_regions += usize::from(regions.len() > 48);
+        let key = |cells: &Vec<usize>| {
+            let on = |e: &&Mover| cells.contains(&(usize::from(e.y) * CW + usize::from(e.x)));
+            (before.enemies[..before.count].iter().filter(on).count(), cells.len())
+        };
+        let keys: Vec<_> = regions.iter().take(48).map(key).collect();
+        let best = keys.iter().max();
+        self.ties += usize::from(keys.iter().filter(|key| Some(*key) == best).count() > 1);
+        closing_is_as_written(&regions, &keys, before, after);
+    }
+}
+
+/// Document 01's closing: the first region with the best key is kept, other counted ones are
+/// claimed, the rest stay black, and only creatures of the kept one remain, in order.
+fn closing_is_as_written(
+    regions: &[Vec<usize>],
+    keys: &[(usize, usize)],
+    before: &Cutter,
+    after: &Cutter,
+) {
+    let kept = keys.iter().position(|key| Some(key) == keys.iter().max());
+    let mut grid = before.grid.map(|code| if code == LINE { CLAIMED } else { code });
+    for (_, cells) in regions.iter().take(48).enumerate().filter(|(i, _)| Some(*i) != kept) {
+        cells.iter().for_each(|&cell| grid[cell] = CLAIMED);
+    }
+    assert_eq!(after.grid, grid);
+    let stays = |e: &&Mover| {
+        kept.is_some_and(|i| regions[i].contains(&(usize::from(e.y) * CW + usize::from(e.x))))
+    };
+    let left: Vec<Mover> = before.enemies[..before.count].iter().filter(stays).copied().collect();
+    assert_eq!(after.enemies[..after.count], left);
+    assert_eq!((after.dx, after.dy), (before.dx, before.dy));
+    assert!(!grid.contains(&BLACK) || cutter::on_border(after, after.px, after.py));
+}
+
+/// Largest sets of black cells joined by four-way steps, by their earliest cell: numbers
+/// lowered to the least among neighbours until nothing changes.
+fn regions(grid: &[u8; CN]) -> Vec<Vec<usize>> {
+    let mut least: Vec<usize> = (0..CN).collect();
+    let mut changed = true;
+    while changed {
+        changed = false;
+        let cells: Vec<usize> = (0..CN).chain((0..CN).rev()).collect();
+        for cell in cells.into_iter().filter(|&cell| grid[cell] == BLACK) {
+            for dir in [UP, RIGHT, DOWN, LEFT] {
+                let Some((x, y)) = beside(cell % CW, cell / CW, dir, CW, CH) else { continue };
+                let near = y * CW + x;
+                if grid[near] == BLACK && least[near] < least[cell] {
+                    least[cell] = least[near];
+                    changed = true;
+                }
+            }
+        }
+    }
+    let mut regions: Vec<Vec<usize>> = Vec::new();
+    for cell in (0..CN).filter(|&cell| grid[cell] == BLACK) {
+        match regions.iter_mut().find(|region| region[0] == least[cell]) {
+            Some(region) => region.push(cell),
+            None => regions.push(vec![cell]),
+        }
+    }
+    regions
+}
+
+#[test]
+fn random_traces_are_wide_and_well_formed() {
+    let trace = random(SEED, SEQUENCES);
+    let mut tally = Tally::default();
+    let report = replay_seen(trace.as_slice(), |seen| tally.see(&seen)).expect("in memory");
+    println!("{SEQUENCES} sequences of seed {SEED}: {} calls, {tally:?}", report.calls);
+    assert_eq!(report.differ, 0);
+    assert!(report.calls > 50_000);
+    for call in CALLS {
+        assert!(headers(&trace).iter().any(|h| h[0] == call), "no call {call}");
+    }
+    let Tally { pushes, squashes, falls, wins, deaths, .. } = tally;
+    assert!([pushes, squashes, falls, wins, deaths].iter().all(|&n| n > 20), "{tally:?}");
+    let Tally { closings, many_regions, ties, walks, respawns, .. } = tally;
+    assert!([closings, many_regions, ties, walks, respawns].iter().all(|&n| n > 10), "{tally:?}");
+    let Tally { levels, overs, breaches, refusals, .. } = tally;
+    assert!([levels, overs, breaches].iter().all(|&n| n > 20), "{tally:?}");
+    assert!(refusals.iter().all(|&n| n > 20), "{tally:?}");
+}
