@@ -2,11 +2,11 @@
 use mathlib.Core.Bool.{Bool, true, false, cond, _&&_, _||_, not, and-assoc, or-assoc, or-false, or-true}
 use mathlib.Core.List.{List, [], _∷_, _++_, map, append-nil}
 use mathlib.Core.Path.{_≡_, refl, ap, sym, _∙_}
-use Prim.Native.Nat.{ℕ, zero, suc, _+_, _<_, _≤_}
-use native.Mathlib.Nat.{le-of-suc-le-suc, not-suc-le-zero}
+use Prim.Native.Nat.{ℕ, zero, suc, _+_, _-_, _<_, _≤_}
+use native.Mathlib.Nat.{le-of-suc-le-suc, not-suc-le-zero, sub-zero, zero-sub, suc-sub-suc}
 use native.Mathlib.Numerals.{add-one}
 use native.Mathlib.Omega.{arith}
-use lib.ListN.{length, getD, take, drop, set, drop-of-length-le, length-map, length-take, replicate}
+use lib.ListN.{length, getD, take, drop, set, drop-of-length-le, length-map, length-take, replicate, take-append-drop}
 use lib.Seq.{drop-cons, getD-take, take-suc, take-suc-set, drop-set-lt, append-snoc, take-all}
 use Rattle.laws.specs.Lists.{all, any, count}
 use Rattle.laws.proofs.Choice.{and-left, and-right, and-both, or-left, or-right}
@@ -26,6 +26,12 @@ module _ {A : Type 0} where
   getD-default (x ∷ l) zero d e h = refl
   getD-default (x ∷ l) (suc i) d e h = getD-default l i d e (le-of-suc-le-suc h)
 
+-- a list of one value, from an index on
+pub drop-replicate : {A : Type 0} (n k : ℕ) (a : A) → drop k (replicate n a) ≡ replicate (n - k) a
+drop-replicate n zero a = rw (sub-zero n)
+drop-replicate zero (suc k) a = rw (zero-sub (suc k))
+drop-replicate (suc n) (suc k) a = rw (suc-sub-suc n k) (drop-replicate n k a)
+
 -- a list of one value, also past its end
 pub getD-replicate-same : {A : Type 0} (n i : ℕ) (a : A) → getD (replicate n a) i a ≡ a
 getD-replicate-same zero i a = refl
@@ -37,6 +43,13 @@ pub taken-one : {A : Type 0} (n : ℕ) (l : List A) (i : ℕ) (d : A) → i < n 
 taken-one n l i d h k =
     let b : i < length (take n l) = simp length-take (omega arith) in
     rw (drop-one (take n l) i d b, getD-take n l i d h)
+
+-- the rest of the first n elements, and those past them
+pub taken-rest : {A : Type 0} (n i : ℕ) (l : List A) → i ≤ n → drop i (take n l) ++ drop n l ≡ drop i l
+taken-rest n zero l h = take-append-drop n l
+taken-rest zero (suc i) l h = absurd (not-suc-le-zero h)
+taken-rest (suc n) (suc i) [] h = refl
+taken-rest (suc n) (suc i) (e ∷ l) h = taken-rest n i l (le-of-suc-le-suc h)
 
 pub taken-end : {A : Type 0} (n : ℕ) (l : List A) (i : ℕ) → n ≤ i → drop i (take n l) ≡ []
 taken-end n l i h = drop-of-length-le (take n l) {i = i} (simp length-take (omega arith))
@@ -151,3 +164,8 @@ module _ {A : Type 0} (f : A → Bool) where
   any-take l i d h =
       rw (add-one, take-suc l i d h, any-append (take i l) (getD l i d ∷ []))
       (ap (λ (b : Bool). any f (take i l) || b) (or-false (f (getD l i d))))
+
+-- what holds of each element, where a weaker test is asked
+pub all-weaken : {A : Type 0} (f g : A → Bool) → ((x : A) → f x ≡ true → g x ≡ true) → (l : List A) → all f l ≡ true → all g l ≡ true
+all-weaken f g h [] a = refl
+all-weaken f g h (x ∷ l) a = and-both (g x) (all g l) (h x (and-left (f x) (all f l) a)) (all-weaken f g h l (and-right (f x) (all f l) a))
