@@ -1,5 +1,5 @@
 -- The player on the line and the creatures on black never stand on one cell, so the tick needs no test for it. Assumes nothing.
-use mathlib.Core.Bool.{true, false, _&&_}
+use mathlib.Core.Bool.{true, _&&_}
 use mathlib.Core.List.{List}
 use mathlib.Core.Path.{_≡_, sym, ap, _∙_}
 use Prim.Native.Nat.{ℕ, _+_, _*_, _/_, _%_}
@@ -11,7 +11,7 @@ use Rattle.ground.specs.Cells.{CW, CB-BLACK, CB-TRAIL, cellAt, blackAt, cellOf}
 use Rattle.ground.specs.declared.Mover.{Mover}
 use Rattle.cutter_state.specs.declared.Cutter.{Cutter}
 use Rattle.cutter_state.specs.State.{place, holdsAt}
-use Rattle.cutter_state.specs.WellFormed.{footing, isUnit, moverOk, WellFormed}
+use Rattle.cutter_state.specs.WellFormed.{isUnit, moverOk, WellFormed}
 use Rattle.cutter_state.proofs.Ring.{holds-code}
 use Rattle.cutter_rules.specs.Ahead.{diagonalOf}
 use Rattle.cutter_rules.specs.Tick.{gone, bounced}

@@ -1,13 +1,12 @@
 -- The draws of a level: what a range says, and lists of draws in range. Assumes nothing.
 use mathlib.Core.Bool.{true, _&&_}
-use mathlib.Core.List.{List, []}
+use mathlib.Core.List.{List}
 use mathlib.Core.Path.{_≡_, refl}
-use Prim.Native.Nat.{ℕ, zero, suc, _+_, _-_, _*_, _≤_, _<_}
+use Prim.Native.Nat.{ℕ, zero, suc, _*_, _<_}
 use native.Mathlib.Omega.{arith}
-use native.Mathlib.Nat.{sub-zero, zero-sub, suc-sub-suc}
 use lib.Dec.{eqb, ltb}
 use lib.IntN.{pos, negsuc}
-use lib.ListN.{length, drop, replicate}
+use lib.ListN.{length}
 use borrow.Author.Tests.{ltb-true, eqb-true}
 use Rattle.laws.specs.Lists.{allBelow}
 use Rattle.laws.proofs.Choice.{and-left, and-right}
@@ -44,8 +43,3 @@ pub velocity-some : (d : ℕ) → (d ≡ 0 → ⊥) → pos 1 ≡ velocity d
 unfolding velocity
 velocity-some zero e = absurd (e refl)
 velocity-some (suc d) e = refl
-
-pub drop-replicate : {A : Type 0} (n k : ℕ) (a : A) → drop k (replicate n a) ≡ replicate (n - k) a
-drop-replicate n zero a = rw (sub-zero n)
-drop-replicate zero (suc k) a = rw (zero-sub (suc k))
-drop-replicate (suc n) (suc k) a = rw (suc-sub-suc n k) (drop-replicate n k a)

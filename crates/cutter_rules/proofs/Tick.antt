@@ -2,31 +2,19 @@
 use mathlib.Core.Bool.{Bool, true, false}
 use mathlib.Core.List.{List, [], _∷_, _++_}
 use mathlib.Core.Path.{_≡_, refl, sym, ap, _∙_}
-use Prim.Native.Nat.{ℕ, zero, suc, _+_, _/_, _%_, _≤_, _<_}
-use native.Mathlib.Nat.{le-of-suc-le-suc, not-suc-le-zero}
+use Prim.Native.Nat.{ℕ, suc, _+_, _/_, _%_, _≤_, _<_}
 use native.Mathlib.Numerals.{add-one}
 use native.Mathlib.Omega.{arith}
-use mathlib.Core.Logic.{⊎-elim}
-use borrow.Author.Tests.{eqb-true}
 use lib.IntN.{ℤ}
-use lib.ListN.{length, getD, take, drop, set, length-set, take-append-drop, List·getD-eq-default}
-use Rattle.laws.proofs.Choice.{below?}
-use Rattle.ground.specs.Cells.{CW, CN, CB-BLACK, CB-FILLED, cellAt, blackAt, cellOf}
+use lib.ListN.{length, getD, take, drop, set, length-set, take-append-drop}
+use Rattle.ground.specs.Cells.{CW, blackAt, cellOf}
 use lib.Seq.{take-suc-set, drop-set-lt, append-snoc}
 use Rattle.laws.specs.Lists.{any}
-use Rattle.laws.proofs.Lists.{drop-one, taken-one, taken-end, any-more, any-holds, any-end}
+use Rattle.laws.proofs.Lists.{drop-one, taken-one, taken-rest, taken-end, any-more, any-holds, any-end}
 use Rattle.ground.specs.declared.Mover.{Mover}
 use Rattle.cutter_rules.specs.declared.enemies.Moved.{Moved}
 use Rattle.cutter_rules.specs.Ahead.{diagonalOf}
 use Rattle.cutter_rules.specs.Tick.{lineAhead, gone, bounced, ticked, tickOf}
-
--- a black cell is on the grid, since off the grid counts as claimed
-pub black-on-grid : (g : List ℕ) (c : ℕ) → length g ≡ CN → blackAt g c ≡ true → c < CN
-black-on-grid g c h b =
-    ⊎-elim
-    (λ l. l)
-    (λ l. let e : _≡_ {A = ℕ} 1 0 = sym (List·getD-eq-default g CB-FILLED {n = c} (omega arith)) ∙ eqb-true (cellAt g c) CB-BLACK b in absurd (omega arith))
-    (below? c CN)
 
 -- where i creatures of the list l have moved, and out is the list now
 pub record Going (g : List ℕ) (l : List Mover) (n : ℕ) (out : List Mover) (i : ℕ) : Type 0 where
@@ -44,13 +32,6 @@ going-start g l n = record { within = omega arith; whole = refl; rest = refl; do
 
 moved-same : (es fs : List Mover) (a b : Bool) → es ≡ fs → a ≡ b → _≡_ {A = Moved} (record { enemies = es; dead = a }) (record { enemies = fs; dead = b })
 moved-same es fs a b p q = cc
-
--- the rest of the first n, and the slots past them
-drop-take : (n i : ℕ) (l : List Mover) → i ≤ n → drop i (take n l) ++ drop n l ≡ drop i l
-drop-take n zero l h = take-append-drop n l
-drop-take zero (suc i) l h = absurd (not-suc-le-zero h)
-drop-take (suc n) (suc i) [] h = refl
-drop-take (suc n) (suc i) (e ∷ l) h = drop-take n i l (le-of-suc-le-suc h)
 
 take-more : (l : List Mover) (i : ℕ) (v : Mover) → i < length l → take (i + 1) (set l i v) ≡ take i l ++ (v ∷ [])
 take-more l i v h = rw add-one (take-suc-set l i v h)
@@ -86,7 +67,7 @@ module _ (g : List ℕ) (l : List Mover) (n : ℕ) (out : List Mover) (i : ℕ) 
   going-dead k t =
       let e = next-taken k in
       let r : ticked g (drop i (take n l)) ≡ drop i (take n l) = rw (e, t) in
-      let p = rw (r, drop-take n i l (s .within), ← s .rest, take-append-drop i out) at (s .done) in
+      let p = rw (r, taken-rest n i l (s .within), ← s .rest, take-append-drop i out) at (s .done) in
       moved-same out _ true _ p (any-holds (lineAhead g) (take n l) i e (s .safe) t)
 
 module _ (g : List ℕ) (l : List Mover) (n : ℕ) (out : List Mover) (i : ℕ) (s : Going g l n out i) (h : n ≤ length l) where

@@ -9,6 +9,7 @@ use lib.ListN.{length, getD, replicate}
 use Rattle.laws.specs.Lists.{allBelow, table}
 use Rattle.ground.specs.Cells.{CW, CH, CB-BLACK, CB-FILLED, MAX-ENEMIES}
 use Rattle.ground.specs.declared.Mover.{Mover}
+use Rattle.closing.specs.Closing.{slots}
 use Rattle.cutter_state.specs.declared.Cutter.{Cutter}
 use Rattle.cutter_state.specs.Change.{withGrid, withPlayer, withDirection, withTrailing, withCreatures}
 
@@ -71,13 +72,9 @@ drawn draws i =
       vy = velocity (drawAt draws i 3);
     }
 
--- a slot that holds zeros
-abbrev pub noMover : Mover
-noMover = record { x = 0; y = 0; vx = pos 0; vy = pos 0 }
-
--- n creatures, and zeros in the slots past them
-unfoldable pub drawnEnemies : List ℕ → ℕ → List Mover
-drawnEnemies draws n = table n (drawn draws) ++ replicate (MAX-ENEMIES - n) noMover
+-- the creatures of n draws, and zeros in the slots past them
+abbrev pub drawnEnemies : List ℕ → ℕ → List Mover
+drawnEnemies draws n = slots (table n (drawn draws))
 
 -- ---- the level
 

@@ -1,18 +1,22 @@
 -- Block Cutter: the direction call, and the player's step.
-use mathlib.Core.Bool.{Bool, true, cond, _&&_}
-use mathlib.Core.List.{List}
-use Prim.Native.Nat.{ℕ, zero, suc, _/_, _%_}
+use mathlib.Core.Bool.{Bool, true, false, cond, _&&_}
+use mathlib.Core.List.{List, map}
+use Prim.Native.Nat.{ℕ, zero, suc, _/_, _%_, _<_}
 use lib.Dec.{eqb, leb}
 use lib.IntN.{ℤ, pos, negsuc}
 use lib.ListN.{set}
 use Rattle.found.specs.declared.Found.{Found}
 use Rattle.found.specs.declared.Found.the-variants.{At, Nobody}
-use Rattle.ground.specs.Cells.{CW, CN, CB-FILLED, CB-TRAIL, cellAt, onBorder}
+use Rattle.ground.specs.Cells.{CW, CH, CN, CB-BLACK, CB-FILLED, CB-TRAIL, cellAt, onBorder}
 use Rattle.cutter_state.specs.declared.Cutter.{Cutter}
 use Rattle.cutter_state.specs.State.{place, creatures}
-use Rattle.cutter_state.specs.WellFormed.{isZero}
-use Rattle.cutter_state.specs.Change.{withGrid, withPlayer, withDirection, withTrailing, killed}
+use Rattle.cutter_state.specs.WellFormed.{isZero, WellFormed}
+use Rattle.cutter_state.specs.Change.{withGrid, withPlayer, withDirection, withTrailing, withCreatures, killed}
+use Rattle.regions.specs.Regions.{MAX-COMP}
+use Rattle.closing.specs.Closing.{closeCut}
+use Rattle.border.specs.Border.{toBorder}
 use Rattle.cutter_rules.specs.Ahead.{diagonalOf}
+use Rattle.cutter_rules.specs.Level.{atStart}
 use Rattle.cutter_rules.specs.Tick.{creatureAt, lineAt}
 
 -- ---- direction
@@ -43,25 +47,77 @@ noDirection c = isZero (c .dx) && isZero (c .dy)
 abbrev pub stopped : Cutter → Cutter
 stopped c = withDirection c (pos 0) (pos 0)
 
+abbrev pub playerCell : Cutter → ℕ
+playerCell c = place (c .px) (c .py)
+
 -- the cell that the step goes to (one part of a direction is 0)
 abbrev pub target : Cutter → ℕ
-target c = diagonalOf (c .dx) (c .dy) (place (c .px) (c .py))
-
--- the player stands at the cell t
-abbrev pub entered : Cutter → ℕ → Cutter
-entered c t = withPlayer c (t % CW) (t / CW)
-
--- line is laid at the cell t, and the player stands there
-abbrev pub laid : Cutter → ℕ → Cutter
-laid c t = entered (withGrid c (set (c .grid) t CB-TRAIL)) t
+target c = diagonalOf (c .dx) (c .dy) (playerCell c)
 
 abbrev pub claimedAt : List ℕ → ℕ → Bool
 claimedAt g t = eqb (cellAt g t) CB-FILLED
 
--- not trailing: claimed with black among its eight neighbours is entered, other claimed clears the direction, black lays line and starts
+-- the player enters the cell t
+abbrev pub entered : Cutter → ℕ → Cutter
+entered c t = withPlayer c (t % CW) (t / CW)
+
+-- the player lays line at the cell t
+abbrev pub laid : Cutter → ℕ → Cutter
+laid c t = entered (withGrid c (set (c .grid) t CB-TRAIL)) t
+
+-- closes the cut: trailing ends, the direction stays
+unfoldable pub cutClosed : Cutter → Cutter
+cutClosed c =
+    let cut = closeCut MAX-COMP (c .grid) (creatures c) in
+    withTrailing (withCreatures (withGrid c (cut .grid)) (cut .enemies) (cut .count)) false
+
+-- moves to the border
+unfoldable pub atBorder : Cutter → Cutter
+atBorder c = entered c (toBorder (c .grid) (playerCell c) .at)
+
+-- trailing: line is dead, claimed enters, closes the cut and then moves to the border, black lays line
+unfoldable pub trailingStep : Cutter → ℕ → Cutter
+trailingStep c t =
+    cond (lineAt (c .grid) t) (killed c)
+    (cond (claimedAt (c .grid) t) (atBorder (cutClosed (entered c t))) (laid c t))
+
+-- otherwise: claimed with black among its eight neighbours is entered, other claimed clears the direction, black lays line and starts
 -- trailing
-unfoldable pub walked : Cutter → ℕ → Cutter
-walked c t =
+unfoldable pub walkingStep : Cutter → ℕ → Cutter
+walkingStep c t =
     cond (claimedAt (c .grid) t)
     (cond (onBorder (c .grid) t) (entered c t) (stopped c))
     (withTrailing (laid c t) true)
+
+-- a creature there, dead
+unfoldable pub met : Found → Cutter → ℕ → Cutter
+met (At i) c t = killed c
+met Nobody c t = cond (c .trailing) (trailingStep c t) (walkingStep c t)
+
+-- no direction, nothing; off the grid, the direction clears
+unfoldable pub stepped : Cutter → Cutter
+stepped c =
+    cond (noDirection c) c
+    (cond (leb CN (target c)) (stopped c) (met (creatureAt (creatures c) (target c)) c (target c)))
+
+-- ---- respawn
+
+-- line back to black
+abbrev pub lineErased : ℕ → ℕ
+lineErased k = cond (eqb k CB-TRAIL) CB-BLACK k
+
+-- line back to black, player (32,0), no direction, not trailing, then to the border
+unfoldable pub respawned : Cutter → Cutter
+respawned c = atBorder (withGrid (atStart c) (map lineErased (c .grid)))
+
+-- ---- what the code is handed
+
+-- a place on the grid
+pub record OnGrid (x y : ℕ) : Type 0 where
+  pub across : x < CW
+  pub down : y < CH
+
+-- a well-formed state, and a cell of the grid to step to
+pub record Stepping (c : Cutter) (t : ℕ) : Type 0 where
+  pub well : WellFormed c
+  pub inside : t < CN

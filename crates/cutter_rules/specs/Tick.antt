@@ -1,15 +1,14 @@
 -- Block Cutter: the creature tick.
 use mathlib.Core.Bool.{Bool, cond, _||_}
 use mathlib.Core.List.{List, [], _∷_, _++_}
-use mathlib.Core.Path.{_≡_}
-use Prim.Native.Nat.{ℕ, _/_, _%_, _≤_}
+use Prim.Native.Nat.{ℕ, _/_, _%_}
 use lib.Dec.{eqb}
 use lib.IntN.{ℤ, pos, negsuc}
-use lib.ListN.{length, take, drop}
+use lib.ListN.{take, drop}
 use Rattle.laws.specs.Lists.{any}
 use Rattle.found.specs.First.{first}
 use Rattle.found.specs.declared.Found.{Found}
-use Rattle.ground.specs.Cells.{CW, CN, CB-TRAIL, MAX-ENEMIES, cellAt, blackAt, cellOf}
+use Rattle.ground.specs.Cells.{CW, CB-TRAIL, cellAt, blackAt, cellOf}
 use Rattle.ground.specs.declared.Mover.{Mover}
 use Rattle.cutter_state.specs.declared.Cutter.{Cutter}
 use Rattle.cutter_state.specs.State.{creatures, spare}
@@ -63,13 +62,8 @@ enemiesStepped c =
     withDead (withCreatures c (ticked (c .grid) (creatures c) ++ spare c) (c .count))
     (c .dead || any (lineAhead (c .grid)) (creatures c))
 
--- ---- what the code is handed, and what its loop answers
+-- ---- what the loop answers
 
 -- the tick of the first n creatures, and whether one of them had line ahead
 unfoldable pub tickOf : List ℕ → List Mover → ℕ → Moved
 tickOf g es n = record { enemies = ticked g (take n es) ++ drop n es; dead = any (lineAhead g) (take n es) }
-
--- what the tick is lent
-pub record Lent (g : List ℕ) (n : ℕ) : Type 0 where
-  pub cells : length g ≡ CN
-  pub few : n ≤ MAX-ENEMIES

@@ -2,9 +2,10 @@
 ghost use mathlib.Core.Path.{_≡_};
 ghost use Prim.Native.Nat.{_≤_};
 ghost use lib.ListN.{length, take};
-ghost use Rattle.ground.specs.Cells.{CN, MAX-ENEMIES, cellOf};
+ghost use Rattle.ground.specs.Cells.{CN, MAX-ENEMIES};
+ghost use Rattle.cutter_state.specs.Passes.{Counted};
 ghost use Rattle.cutter_state.specs.WellFormed.{WellFormed};
-ghost use Rattle.cutter_rules.specs.Tick.{creatureAt, lineAt, lineAhead, flipped, turned, gone, bounced, enemiesStepped, tickOf, Lent};
+ghost use Rattle.cutter_rules.specs.Tick.{creatureAt, lineAt, lineAhead, flipped, turned, gone, bounced, enemiesStepped, tickOf};
 use crate::ahead::diagonal_of;
 use crate::ahead::side_of;
 use crate::ahead::vertical_of;
@@ -17,12 +18,7 @@ use ground::MAX_ENEMIES;
 use ground::Mover;
 use ground::black_at;
 use ground::cell;
-
-fn cell_of(e: Mover) -> usize
-    ensures { λ r. ⌜ r ≡ cellOf e ⌝ }
-{
-    e.y as usize * CW + e.x as usize
-}
+use ground::cell_of;
 
 // The first creature at a cell, or nobody.
 pub fn enemy_at(enemies: [Mover; MAX_ENEMIES], count: usize, at: usize) -> Found
@@ -112,7 +108,7 @@ pub struct Moved {
 
 // Each of the first `count` creatures in order, up to one that meets the line.
 pub fn tick(grid: &[u8; CN], enemies: [Mover; MAX_ENEMIES], count: usize) -> Moved
-    requires { ⌜ Lent (now grid) count ⌝ }
+    requires { ⌜ Counted (now grid) count ⌝ }
     ensures { λ r. ⌜ r ≡ tickOf (now (grid .entry)) enemies count ⌝ }
 {
     let mut out = enemies;

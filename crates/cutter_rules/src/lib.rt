@@ -10,3 +10,5 @@ pub use level::creatures_of;
 pub use level::draws_ok;
 pub use level::new_level;
 pub use player::direction;
+pub use player::respawn;
+pub use player::step_player;

@@ -1,10 +1,24 @@
-// The player: direction and step.
+// The player: direction, step and respawn.
+ghost use mathlib.Core.Bool.{_&&_};
+ghost use mathlib.Core.List.{map};
 ghost use mathlib.Core.Path.{_≡_};
 ghost use Prim.Native.Nat.{_<_};
+ghost use lib.ListN.{length};
 ghost use Rattle.ground.specs.Cells.{CN};
-ghost use Rattle.cutter_state.specs.Change.{withDirection};
-ghost use Rattle.cutter_rules.specs.Step.{directed, noDirection, stopped, entered, laid, walked};
+ghost use Rattle.closing.specs.Steps.{Closable};
+ghost use Rattle.cutter_state.specs.State.{place};
+ghost use Rattle.cutter_state.specs.Change.{withDirection, killed};
+ghost use Rattle.cutter_state.specs.WellFormed.{isZero, WellFormed};
+ghost use Rattle.cutter_rules.specs.Ahead.{diagonalOf};
+ghost use Rattle.cutter_rules.specs.Step.{directed, entered, laid, cutClosed, atBorder, trailingStep, walkingStep, stepped, lineErased, respawned, OnGrid, Stepping};
+use crate::ahead::diagonal_of;
+use crate::enemies::enemy_at;
+use crate::level::at_start;
+use border::move_to_border;
+use closing::close_cut;
 use cutter_state::Cutter;
+use found::Found;
+use ground::CB_BLACK;
 use ground::CB_FILLED;
 use ground::CB_TRAIL;
 use ground::CN;
@@ -33,10 +47,26 @@ pub fn direction(c: Cutter, dir: u8) -> Cutter
     }
 }
 
-fn standing(c: Cutter) -> bool
-    ensures { λ r. ⌜ r ≡ noDirection c ⌝ }
+fn standing(dx: i8, dy: i8) -> bool
+    ensures { λ r. ⌜ r ≡ (isZero dx && isZero dy) ⌝ }
 {
-    (c.dx == 0) & (c.dy == 0)
+    (dx == 0) & (dy == 0)
+}
+
+// The cell one step away.
+fn target_of(px: usize, py: usize, dx: i8, dy: i8) -> usize
+    requires { ⌜ OnGrid px py ⌝ }
+    ensures { λ r. ⌜ r ≡ diagonalOf dx dy (place px py) ⌝ }
+{
+    diagonal_of(py * CW + px, dx, dy)
+}
+
+fn kill(c: Cutter) -> Cutter
+    ensures { λ r. ⌜ r ≡ killed c ⌝ }
+{
+    let mut out = c;
+    out.dead = true;
+    out
 }
 
 fn enter(c: Cutter, to: usize) -> Cutter
@@ -59,10 +89,56 @@ fn lay_line(c: Cutter, to: usize) -> Cutter
     out
 }
 
+// Close a finished line: it becomes claimed, then every side of the black but one is captured.
+fn close(c: Cutter) -> Cutter
+    requires { ⌜ Closable (c .enemies) (c .count) ⌝ }
+    ensures { λ r. ⌜ r ≡ cutClosed c ⌝ }
+{
+    let grid = c.grid;
+    let enemies = c.enemies;
+    let cut = close_cut(grid, enemies, c.count);
+    let cells = cut.grid;
+    let left = cut.enemies;
+    let mut out = c;
+    out.grid = cells;
+    out.enemies = left;
+    out.count = cut.count;
+    out.trailing = false;
+    out
+}
+
+// Move the player to the nearest cell beside black, if it is not on one: a cut can capture the side it was standing against, and the
+// start position can end up inside claimed ground.
+fn to_border(c: Cutter) -> Cutter
+    requires { ⌜ OnGrid (c .px) (c .py) ⌝ }
+    ensures { λ r. ⌜ r ≡ atBorder c ⌝ }
+{
+    let at = c.py * CW + c.px;
+    let w = move_to_border(&c.grid, at);
+    enter(c, w.at)
+}
+
+// While drawing: crossing your own line is fatal, claimed ground closes the cut, black takes the line on.
+fn step_trailing(c: Cutter, to: usize) -> Cutter
+    requires { ⌜ Stepping c to ⌝ }
+    ensures { λ r. ⌜ r ≡ trailingStep c to ⌝ }
+{
+    let target = cell(&c.grid, to);
+    if target == CB_TRAIL {
+        return kill(c);
+    }
+    if target == CB_FILLED {
+        let inside = enter(c, to);
+        let cut = close(inside);
+        return to_border(cut);
+    }
+    lay_line(c, to)
+}
+
 // Claimed ground is walkable only along the black's border: the player stops at the edge of the rest. Black starts a line.
 fn step_walking(c: Cutter, to: usize) -> Cutter
     requires { ⌜ to < CN ⌝ }
-    ensures { λ r. ⌜ r ≡ walked c to ⌝ }
+    ensures { λ r. ⌜ r ≡ walkingStep c to ⌝ }
 {
     if cell(&c.grid, to) == CB_FILLED {
         if on_border(&c.grid, to) {
@@ -73,4 +149,53 @@ fn step_walking(c: Cutter, to: usize) -> Cutter
     let mut out = lay_line(c, to);
     out.trailing = true;
     out
+}
+
+// One movement step in the current direction. Lays or closes the line as it goes.
+pub fn step_player(c: Cutter) -> Cutter
+    requires { ⌜ WellFormed c ⌝ }
+    ensures { λ r. ⌜ r ≡ stepped c ⌝ }
+{
+    if standing(c.dx, c.dy) {
+        return c;
+    }
+    let to = target_of(c.px, c.py, c.dx, c.dy);
+    if CN <= to {
+        return turn_to(c, 0, 0);
+    }
+    let enemies = c.enemies;
+    // Walking into a creature is fatal too, not only being caught by one.
+    if let Found::At(_) = enemy_at(enemies, c.count, to) {
+        return kill(c);
+    }
+    if c.trailing {
+        return step_trailing(c, to);
+    }
+    step_walking(c, to)
+}
+
+fn off_line(k: u8) -> u8
+    ensures { λ r. ⌜ r ≡ lineErased k ⌝ }
+{
+    if k == CB_TRAIL { CB_BLACK } else { k }
+}
+
+fn erase_line(grid: &mut [u8; CN])
+    requires { ⌜ length (now grid) ≡ CN ⌝ }
+    ensures { λ _. ⌜ now (grid .exit) ≡ map lineErased (now (grid .entry)) ⌝ }
+{
+    let mut i: usize = 0;
+    while i < CN {
+        grid[i] = off_line(grid[i]);
+        i += 1;
+    }
+}
+
+// The line is black again, and the player back at the start.
+pub fn respawn(c: Cutter) -> Cutter
+    ensures { λ r. ⌜ r ≡ respawned c ⌝ }
+{
+    let mut out = at_start(c);
+    erase_line(&mut out.grid);
+    to_border(out)
 }

@@ -1,16 +1,14 @@
-use mathlib.Core.Bool.{Bool}
-use mathlib.Core.Path.{_≡_, refl, sym, ap, _∙_}
-use Prim.Native.Nat.{ℕ, _≤_, _-_}
+use mathlib.Core.Path.{_≡_, refl, sym, _∙_}
+use Prim.Native.Nat.{_≤_, _-_}
 use native.Mathlib.Omega.{arith}
 use borrow.Author.Needs.{needs}
 use borrow.Author.Tests.{eq-eqb, ne-eqb}
 use lib.Dec.{eqb}
-use lib.ListN.{getD, take, drop}
-use Rattle.laws.proofs.Lists.{mapped, mapped-below, taken-one, taken-end}
+use lib.ListN.{take, drop}
+use Rattle.laws.proofs.Lists.{mapped-below, taken-one, taken-end}
 use Rattle.found.specs.First.{firstFrom}
 use Rattle.found.proofs.First.{first-here, first-more, first-none}
 use Rattle.ground.specs.Cells.{cellOf}
-use Rattle.ground.specs.declared.Mover.{Mover}
 use Rattle.cutter_rules.specs.Tick.{creatureAt}
 use Rattle.cutter_rules.proofs.enemies.enemy_at.Statement.{statement}
 use Rattle.cutter_rules.proofs.enemies.enemy_at.Tie as tie

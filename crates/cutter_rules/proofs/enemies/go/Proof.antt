@@ -1,9 +1,12 @@
 use mathlib.Core.Path.{sym, _∙_}
 use borrow.Author.Needs.{needs}
+use borrow.Author.Tests.{eqb-true}
 use native.Mathlib.Omega.{arith}
 use mir.Facts.{toZ-ofZ}
 use denote.Ref.{now}
-use Rattle.cutter_rules.proofs.Tick.{black-on-grid, gone-there, gone-not}
+use Rattle.ground.specs.Cells.{CB-BLACK, cellAt}
+use Rattle.joined.proofs.Joined.{black-in}
+use Rattle.cutter_rules.proofs.Tick.{gone-there, gone-not}
 use Rattle.cutter_rules.proofs.enemies.go.Statement.{statement}
 use Rattle.cutter_rules.proofs.enemies.go.Tie as tie
 
@@ -22,8 +25,10 @@ cast-t9 c = search needs
 cast-t11 : tie.Need-cast-t11
 cast-t11 c =
     let k = c .before .before .before .before in
-    let h = black-on-grid (now (k .args .grid)) (c .before .before .diagonal-of .result) (k .pre) (sym (c .before .black-at .ensures) ∙ c .if1 .taken) in
-    record { fits = omega (arith, h) }
+    let g = now (k .args .grid) in
+    let to = c .before .before .diagonal-of .result in
+    let b = eqb-true (cellAt g to) CB-BLACK (sym (c .before .black-at .ensures) ∙ c .if1 .taken) in
+    record { fits = omega (arith, black-in g to b, k .pre) }
 
 returns : tie.Need-returns
 returns c =

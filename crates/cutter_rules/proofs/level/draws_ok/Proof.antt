@@ -1,4 +1,3 @@
-use mathlib.Core.Bool.{false, _&&_}
 use mathlib.Core.Path.{_≡_, refl}
 use Prim.Native.Nat.{_*_, _≤_, _-_}
 use native.Mathlib.Numerals.{add-one}
@@ -23,10 +22,12 @@ mul-if1 c = search needs
 
 returns : tie.Need-returns Inv-loop μ-loop
 unfolding drawsOk
-returns c = simp (ne-eqb _ _ (c .if1 .taken))
+returns c =
+    let a = c .before .before .args in
+    simp (ne-eqb (length (now (a .draws))) (DRAWS * a .n) (λ e. omega (arith, c .if1 .taken)))
 
 loop-holds : tie.Need-loop-holds Inv-loop μ-loop
-loop-holds c = (omega arith, c .if1 .left, refl)
+loop-holds c = (omega arith, omega (arith, c .if1 .left), refl)
 
 in-range-requires : tie.Need-in-range-requires Inv-loop μ-loop
 in-range-requires c κs = omega arith

@@ -1,7 +1,7 @@
 use mathlib.Core.Path.{sym, _∙_}
 use borrow.Author.Needs.{needs}
 use borrow.Author.Tests.{eq-eqb, ne-eqb}
-use Rattle.cutter_rules.specs.Step.{walked}
+use Rattle.cutter_rules.specs.Step.{walkingStep}
 use Rattle.cutter_rules.proofs.player.step_walking.Statement.{statement}
 use Rattle.cutter_rules.proofs.player.step_walking.Tie as tie
 
@@ -15,7 +15,7 @@ enter-requires : tie.Need-enter-requires
 enter-requires c κs = search needs
 
 returns : tie.Need-returns
-unfolding walked
+unfolding walkingStep
 returns c =
     let e = sym (c .before .before .before .before .before .before .cell .ensures) ∙ c .before .before .before .before .before .if1 .taken in
     simp (eq-eqb _ _ e, sym (c .before .before .on-border .ensures) ∙ c .before .if2 .taken) (c .enter .ensures)
@@ -24,7 +24,7 @@ turn-to-requires : tie.Need-turn-to-requires
 turn-to-requires c κs = search needs
 
 returns-2 : tie.Need-returns-2
-unfolding walked
+unfolding walkingStep
 returns-2 c =
     let e = sym (c .before .before .before .before .before .before .cell .ensures) ∙ c .before .before .before .before .before .if1 .taken in
     simp (eq-eqb _ _ e, sym (c .before .before .on-border .ensures) ∙ c .before .if2 .left) (c .turn-to .ensures)
@@ -33,7 +33,7 @@ lay-line-requires : tie.Need-lay-line-requires
 lay-line-requires c κs = search needs
 
 returns-3 : tie.Need-returns-3
-unfolding walked
+unfolding walkingStep
 returns-3 c = simp (ne-eqb _ _ (λ e. c .before .if1 .left (c .before .before .cell .ensures ∙ e)), c .lay-line .ensures)
 
 pub step-walking-spec : {M : Type 1} → statement M
