@@ -54,7 +54,7 @@ sound-caught m x y e s =
     let b′ : count isCoin (set (m .grid) (place x y) EMPTY) + 1 ≡ count isCoin (m .grid) = rw e at b in
     record { cells = simp length-set (s .cells); marks = s .marks; slots = s .slots; few = s .few; placed = s .placed; home = s .home; coins = omega (arith, s .coins) }
 
-sound-killed : (m : Mine) → Sound m → Sound (killed m)
+pub sound-killed : (m : Mine) → Sound m → Sound (killed m)
 sound-killed m s = record { cells = s .cells; marks = s .marks; slots = s .slots; few = s .few; placed = s .placed; home = s .home; coins = s .coins }
 
 sound-squashed : (m : Mine) (x y nx ny i : ℕ) → (nx < W) × (ny < H) → codeAt m nx ny ≡ EMPTY → Sound m → Sound (carried (without m i) x y nx ny)

@@ -1,11 +1,15 @@
--- P1: what the level holds. Assumes nothing.
+-- P1 to P3: what the level holds, three steps to the right, and a first creature tick. Assumes nothing.
 use mathlib.Core.Bool.{true, false}
-use mathlib.Core.List.{[], _∷_}
-use mathlib.Core.Path.{_≡_, refl}
+use mathlib.Core.List.{[], _∷_, map}
+use mathlib.Core.Path.{_≡_, refl, sym, _∙_, ap, subst}
 use lib.ListN.{replicate}
-use Rattle.mine_state.specs.State.{AREA, EXIT, codeAt, creatures, purse, boulders, emptyAt}
+use Rattle.mine_state.specs.declared.Mine.{Mine}
+use Rattle.mine_state.specs.State.{AREA, EXIT, codeAt, creatures, purse, boulders, emptyAt, freeAt, blankSlot}
 use Rattle.mine_state.specs.WellFormed.{cellsOk, creaturesOk, numbersOk, wellFormed}
-use Rattle.mine_rules.specs.Load.{readAt, readFrom, mineOf, loaded}
+use Rattle.mine_rules.specs.Ways.{RIGHT, nextCell}
+use Rattle.mine_rules.specs.Load.{tileOf, readAt, readFrom, mineOf, LEVEL, loaded}
+use Rattle.mine_rules.specs.Move.{pushed, met, moved}
+use Rattle.mine_rules.specs.Tick.{wayOf, tickOne, ticked}
 
 -- player (1,1); exit (21,12); 38 coins, 17 boulders, needed 28; all marks false; creatures (20,1) and (21,9), both direction 1
 pub record Start : Type 0 where
@@ -25,3 +29,45 @@ pub record Start : Type 0 where
 pub start : Start
 unfolding loaded mineOf readFrom readAt wellFormed cellsOk creaturesOk numbersOk emptyAt
 start = record { px = refl; py = refl; exit = refl; coins = refl; hand = refl; stones = refl; needed = refl; marks = refl; them = refl; alive = refl; playing = refl; well = refl }
+
+-- the loaded mine written out, so that what is computed of it reads nothing again
+abbrev pub drawn : Mine
+drawn =
+    record {
+      grid = map tileOf LEVEL;
+      falling = replicate AREA false;
+      px = 1;
+      py = 1;
+      enemies = record { x = 20; y = 1; dir = 1 } ∷ record { x = 21; y = 9; dir = 1 } ∷ replicate 6 blankSlot;
+      count = 2;
+      coins = 0;
+      needed = 28;
+      dead = false;
+      won = false;
+    }
+
+pub loaded-drawn : loaded ≡ drawn
+unfolding loaded mineOf readFrom readAt
+loaded-drawn = refl
+
+-- P2: load, right three times: (4,1), 1 coin
+abbrev pub rightThrice : Mine → Mine
+rightThrice m = moved (moved (moved m RIGHT) RIGHT) RIGHT
+
+abbrev pub AtFour : Mine → Type 0
+AtFour m = (m .px ≡ 4) × (m .py ≡ 1) × (m .coins ≡ 1)
+
+drawn-right : AtFour (rightThrice drawn)
+unfolding moved met pushed nextCell freeAt emptyAt
+drawn-right = (refl, refl, refl)
+
+pub p2 : AtFour (rightThrice loaded)
+p2 = subst (λ (m : Mine). AtFour (rightThrice m)) (sym loaded-drawn) drawn-right
+
+-- P3: load, creature tick: no change
+drawn-tick : ticked drawn ≡ drawn
+unfolding ticked tickOne wayOf nextCell emptyAt
+drawn-tick = refl
+
+pub p3 : ticked loaded ≡ loaded
+p3 = ap ticked loaded-drawn ∙ drawn-tick ∙ sym loaded-drawn

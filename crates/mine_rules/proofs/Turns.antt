@@ -27,6 +27,7 @@ use Rattle.mine_rules.specs.declared.ticks.Step.{Step}
 use Rattle.mine_rules.specs.declared.ticks.Step.the-variants.{Goes, Stays}
 use Rattle.mine_rules.specs.Ways.{nextCell, OnGrid}
 use Rattle.mine_rules.specs.Tick.{goesTo, wayOf, turns, orElse, chosen, stepped, tickOne, ticked}
+use Rattle.mine_rules.proofs.GravitySound.{sound-killed}
 use Rattle.mine_rules.proofs.Next.{next-inside}
 
 -- the cell ahead, as the code asks for it
@@ -51,8 +52,9 @@ module _ (m : Mine) (e : Enemy) (i : ℕ) (h : i < 4) {R : Step} where
   pub chosen-more : wayOf m e ((e .dir + getD turns i 0) % 4) ≡ Stays → chosen m e (drop i turns) ≡ R → chosen m e (drop (i + 1) turns) ≡ R
   chosen-more w q = rw (drop-one turns i 0 h, w) at q
 
-pub turn-small : (i : ℕ) → getD turns i 0 ≤ 3
-turn-small i = leb-true (getD turns i 0) 3 (all-at (λ t. leb t 3) turns i 0 refl refl)
+-- a direction and a turn of at most 3 are a small sum
+pub turn-fits : (l : List ℕ) (d i : ℕ) → all (λ t. leb t 3) l ≡ true → d ≤ 3 → d + getD l i 0 < 256
+turn-fits l d i a h = let b = leb-true (getD l i 0) 3 (all-at (λ t. leb t 3) l i 0 a refl) in omega arith
 
 pub chosen-end : (m : Mine) (e : Enemy) (i : ℕ) {R : Step} → i ≡ 4 → chosen m e (drop i turns) ≡ R → Stays ≡ R
 chosen-end m e i h q = rw h at q
@@ -87,7 +89,7 @@ chosen-on-map m e to h q =
     let i = map-inside e h in
     subst OnMap q (chosen-kept m e turns (record { across = i .0; down = i .1 }))
 
--- one creature changed, or the player caught: what is sound stays so
+-- one creature changed: what is sound stays so
 sound-creature : (m : Mine) (i : ℕ) (e : Enemy) → onMap e ≡ true → Sound m → Sound (withCreature m i e)
 sound-creature m i e h s =
     record {
@@ -99,9 +101,6 @@ sound-creature m i e h s =
       home = s .home;
       coins = s .coins;
     }
-
-sound-killed : (m : Mine) → Sound m → Sound (killed m)
-sound-killed m s = record { cells = s .cells; marks = s .marks; slots = s .slots; few = s .few; placed = s .placed; home = s .home; coins = s .coins }
 
 -- The loop over the creatures: the state so far is sound, the places tell where the creatures stand, and what is left to do gives R.
 pub record During (R : Mine) (spots : List ℕ) (n i : ℕ) (s : Mine) : Type 0 where

@@ -1,3 +1,4 @@
+use mathlib.Core.List.{[], _∷_}
 use mathlib.Core.Path.{_≡_, refl, sym, _∙_}
 use Prim.Native.Nat.{_≤_, _-_}
 use native.Mathlib.Omega.{arith}
@@ -7,7 +8,7 @@ use Rattle.mine_state.specs.declared.Mine.{Mine}
 use Rattle.mine_state.specs.Spots.{Spotted}
 use Rattle.mine_state.proofs.Places.{map-dir}
 use Rattle.mine_rules.specs.Tick.{turns, chosen}
-use Rattle.mine_rules.proofs.Turns.{chosen-goes, chosen-more, chosen-end, turn-small}
+use Rattle.mine_rules.proofs.Turns.{chosen-goes, chosen-more, chosen-end, turn-fits}
 use Rattle.mine_rules.proofs.ticks.choose.Statement.{statement}
 use Rattle.mine_rules.proofs.ticks.choose.Tie as tie
 
@@ -27,7 +28,7 @@ array-read-turn c = omega arith
 add-dir : tie.Need-add-dir Inv-loop μ-loop
 add-dir c =
     let k = c .before .before in
-    omega (arith, turn-small (k .loop .i), map-dir (k .before .args .e) (k .before .pre .placed))
+    omega (arith, turn-fits (3 ∷ 0 ∷ 1 ∷ 2 ∷ []) (k .before .args .e .dir) (k .loop .i) refl (map-dir (k .before .args .e) (k .before .pre .placed)))
 
 way-requires : tie.Need-way-requires Inv-loop μ-loop
 way-requires c κs = search needs
