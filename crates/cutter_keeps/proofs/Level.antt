@@ -1,0 +1,137 @@
+-- A fresh level is well formed, and its numbers are those of the ring. Assumes nothing.
+use mathlib.Core.Bool.{Bool, true, false, _&&_}
+use mathlib.Core.List.{List, [], _∷_, _++_}
+use mathlib.Core.Path.{_≡_, refl, _∙_, ap}
+use Prim.Native.Nat.{ℕ, zero, suc, _+_, _-_, _*_, _/_, _≤_, _<_}
+use native.Mathlib.Omega.{arith}
+use lib.ListN.{length, getD, length-append, List·getD-append}
+use lib.Seq.{getD-append-add}
+use Rattle.laws.specs.Lists.{all, any, table, tally}
+use Rattle.laws.proofs.Below.{same-below}
+use Rattle.laws.proofs.Choice.{and-both}
+use Rattle.laws.proofs.Lists.{all-append}
+use Rattle.laws.proofs.Table.{length-table}
+use Rattle.ground.specs.Cells.{CW, CH, CN, CB-BLACK, CB-FILLED, CB-TRAIL, MAX-ENEMIES, cellAt}
+use Rattle.cutter_state.specs.declared.Cutter.{Cutter}
+use Rattle.cutter_state.specs.State.{place, holdsAt}
+use Rattle.cutter_state.specs.WellFormed.{MAX-LIVES, MAX-LEVEL, isCode, isTrail, rowsFilled, columnsFilled, isUnit, moverOk}
+use Rattle.cutter_state.proofs.Ring.{code-holds}
+use Rattle.cutter_rules.specs.Level.{edge, between, rows, freshGrid, creaturesOf, drawAt, inRange, drawsOk, velocity, drawn, atStart, freshLevel}
+use Rattle.cutter_rules.proofs.Draws.{place-fits, draws-each}
+use Rattle.cutter_keeps.specs.Kept.{INNER, RING, Fresh}
+use Rattle.cutter_keeps.proofs.Creatures.{slots-length, slots-each, slots-rest}
+
+-- ---- inside the ring is black
+
+module _ (r : List ℕ) (l : length r ≡ CW) where
+  length-rows : (k : ℕ) → length (rows k r) ≡ k * CW
+  length-rows zero = refl
+  length-rows (suc k) = length-append r (rows k r) ∙ omega (arith, length-rows k)
+
+  rows-at : (k y x d : ℕ) → y < k → x < CW → getD (rows k r) (place x y) d ≡ getD r x d
+  rows-at zero y x d h i = absurd (omega arith)
+  rows-at (suc k) zero x d h i =
+      let q : place x zero ≡ x = omega arith in
+      ap (λ (n : ℕ). getD (r ++ rows k r) n d) q ∙ List·getD-append r (rows k r) d x (omega arith)
+  rows-at (suc k) (suc y) x d h i =
+      let q : place x (suc y) ≡ length r + place x y = omega arith in
+      ap (λ (n : ℕ). getD (r ++ rows k r) n d) q ∙ getD-append-add r (rows k r) (place x y) d ∙ rows-at k y x d (omega arith) i
+
+between-black : (x : ℕ) → x < CW - 2 → cellAt between (1 + x) ≡ CB-BLACK
+between-black = same-below (CW - 2) (λ x. cellAt between (1 + x)) (λ _. CB-BLACK) refl
+
+inner-black : (x y : ℕ) → x < CW - 2 → y < CH - 2 → cellAt freshGrid (place (1 + x) (1 + y)) ≡ CB-BLACK
+unfolding freshGrid
+inner-black x y h k =
+    let q : place (1 + x) (1 + y) ≡ length edge + place (1 + x) y = omega arith in
+    ap (cellAt (edge ++ rows (CH - 2) between ++ edge)) q
+    ∙ getD-append-add edge (rows (CH - 2) between ++ edge) (place (1 + x) y) CB-FILLED
+    ∙ List·getD-append (rows (CH - 2) between) edge CB-FILLED (place (1 + x) y) (omega (arith, length-rows between refl (CH - 2)))
+    ∙ rows-at between refl (CH - 2) y (1 + x) CB-FILLED k (omega arith)
+    ∙ between-black x h
+
+-- ---- the creatures drawn
+
+velocity-unit : (d : ℕ) → isUnit (velocity d) ≡ true
+unfolding velocity
+velocity-unit zero = refl
+velocity-unit (suc d) = refl
+
+drawn-ok : (draws : List ℕ) (i : ℕ) → inRange draws i ≡ true → moverOk freshGrid (drawn draws i) ≡ true
+unfolding moverOk drawn
+drawn-ok draws i r =
+    let f = place-fits draws i r in
+    let h = code-holds freshGrid CB-BLACK (1 + drawAt draws i 0) (1 + drawAt draws i 1) (omega arith) (omega arith) (inner-black (drawAt draws i 0) (drawAt draws i 1) (f .0) (f .1)) in
+    rw (h, velocity-unit (drawAt draws i 2)) (velocity-unit (drawAt draws i 3))
+
+all-table : {A : Type 0} (f : A → Bool) (n : ℕ) (p : ℕ → A) → ((k : ℕ) → k < n → f (p k) ≡ true) → all f (table n p) ≡ true
+unfolding table
+all-table f zero p h = refl
+all-table f (suc n) p h = all-append f (table n p) (p n ∷ []) ∙ and-both (all f (table n p)) (f (p n) && true) (all-table f n p (λ k l. h k (omega arith))) (and-both (f (p n)) true (h n (omega arith)) refl)
+
+-- ---- the level
+
+fresh-cells : length freshGrid ≡ CN
+unfolding freshGrid
+fresh-cells = refl
+
+fresh-codes : all isCode freshGrid ≡ true
+unfolding freshGrid
+fresh-codes = refl
+
+fresh-rows : rowsFilled freshGrid ≡ true
+unfolding freshGrid rowsFilled
+fresh-rows = refl
+
+fresh-columns : columnsFilled freshGrid ≡ true
+unfolding freshGrid columnsFilled
+fresh-columns = refl
+
+fresh-trail : any isTrail freshGrid ≡ false
+unfolding freshGrid
+fresh-trail = refl
+
+fresh-player : holdsAt freshGrid CB-FILLED (CW / 2) 0 ≡ true
+unfolding freshGrid holdsAt
+fresh-player = refl
+
+fresh-black : tally CB-BLACK freshGrid ≡ INNER
+unfolding freshGrid tally
+fresh-black = refl
+
+fresh-claimed : tally CB-FILLED freshGrid ≡ RING
+unfolding freshGrid tally
+fresh-claimed = refl
+
+fresh-line : tally CB-TRAIL freshGrid ≡ 0
+unfolding freshGrid tally
+fresh-line = refl
+
+pub level-fresh : (c : Cutter) (draws : List ℕ) → c .lives ≤ MAX-LIVES → 1 ≤ c .level → c .level ≤ MAX-LEVEL → drawsOk draws (creaturesOf (c .level)) ≡ true → Fresh (freshLevel c draws)
+unfolding freshLevel atStart
+level-fresh c draws h a b o =
+    let n = creaturesOf (c .level) in
+    let few : n ≤ MAX-ENEMIES = omega arith in
+    let es = table n (drawn draws) in
+    let len = length-table n (drawn draws) in
+    record {
+      formed = record {
+        cells = fresh-cells;
+        codes = fresh-codes;
+        rows = fresh-rows;
+        columns = fresh-columns;
+        line = fresh-trail;
+        player = fresh-player;
+        direction = refl;
+        slots = slots-length es n len few;
+        few = few;
+        each = rw (slots-each es n len) (all-table (moverOk freshGrid) n (drawn draws) (λ k l. drawn-ok draws k (draws-each draws n k (record { few = few; fit = o }) l .fit)));
+        rest = slots-rest es n len;
+        lives = h;
+        level = (a, b);
+      };
+      black = fresh-black;
+      claimed = fresh-claimed;
+      line = fresh-line;
+      creatures = refl;
+    }
