@@ -12,7 +12,7 @@ use Rattle.found.specs.declared.Found.the-variants.{At, Nobody}
 use Rattle.mine_state.specs.declared.Mine.{Mine}
 use Rattle.mine_state.specs.State.{W, H, EMPTY, isCoin, codeAt, marked, emptyAt, playerAt, firstAt, freeAt}
 use Rattle.mine_state.specs.Change.{killed}
-use Rattle.mine_rules.specs.Gravity.{isObject, carried, rested, without, caught, overPlayer, overCreature, overFound, overEmpty, openSide, rolled, overOther, cellFall, rowFall, gravityOf}
+use Rattle.mine_rules.specs.Gravity.{isObject, carried, rested, without, coinCollected, overPlayer, overCreature, overFound, overEmpty, openSide, rolled, overOther, cellFall, rowFall, gravityOf}
 
 -- what the changes of a tick keep
 pub record Keeps (P : Mine → Type 0) : Type 0 where
@@ -21,7 +21,7 @@ pub record Keeps (P : Mine → Type 0) : Type 0 where
   -- an object falls or rolls to a free cell
   pub moves : (m : Mine) (x y nx ny : ℕ) → isObject (codeAt m x y) ≡ true → freeAt m nx ny ≡ true → P m → P (carried m x y nx ny)
   -- a coin is collected
-  pub collects : (m : Mine) (x y : ℕ) → isCoin (codeAt m x y) ≡ true → P m → P (caught m x y)
+  pub collects : (m : Mine) (x y : ℕ) → isCoin (codeAt m x y) ≡ true → P m → P (coinCollected m x y)
   -- a boulder sets dead
   pub kills : (m : Mine) → P m → P (killed m)
   -- an object falls on the creature i, which goes
@@ -41,7 +41,7 @@ module _ {P : Mine → Type 0} (k : Keeps P) (m : Mine) (x y : ℕ) (p : P m) wh
   over-player-keeps =
       cond-both P (not (marked m x y)) _ _ (λ _. k .rests m x y p)
       (λ _. cond-both P (isCoin (codeAt m x y)) _ _
-      (λ e. k .rests (caught m x y) x y (k .collects m x y e p))
+      (λ e. k .rests (coinCollected m x y) x y (k .collects m x y e p))
       (λ _. k .rests (killed m) x y (k .kills m p)))
 
   module _ (o : isObject (codeAt m x y) ≡ true) where

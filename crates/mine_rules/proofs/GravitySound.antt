@@ -14,7 +14,7 @@ use Rattle.mine_state.specs.Spots.{onMap}
 use Rattle.mine_state.specs.Change.{withGrid, withMarks, killed}
 use Rattle.mine_state.specs.WellFormed.{Sound}
 use Rattle.mine_state.proofs.Cells.{empty-inside, empty-code, free-inside, free-empty}
-use Rattle.mine_rules.specs.Gravity.{carried, rested, without, caught}
+use Rattle.mine_rules.specs.Gravity.{carried, rested, without, coinCollected}
 use Rattle.mine_rules.proofs.GravityKeeps.{Keeps}
 
 -- grid and marks changed, the coins no more
@@ -47,9 +47,9 @@ sound-without m i s =
     let p = all-set onMap (set l i e) last blankSlot (all-set onMap l i e (s .placed) (all-at onMap l last blankSlot (s .placed) refl)) refl in
     record { cells = s .cells; marks = s .marks; slots = simp length-set (s .slots); few = omega (arith, s .few); placed = p; home = s .home; coins = s .coins }
 
--- a coin that is caught moves from the map into the hand
-sound-caught : (m : Mine) (x y : ℕ) → isCoin (codeAt m x y) ≡ true → Sound m → Sound (caught m x y)
-sound-caught m x y e s =
+-- a coin that is collected moves from the map into the hand
+sound-collected : (m : Mine) (x y : ℕ) → isCoin (codeAt m x y) ≡ true → Sound m → Sound (coinCollected m x y)
+sound-collected m x y e s =
     let b = count-clear isCoin EMPTY refl refl (m .grid) (place x y) in
     let b′ : count isCoin (set (m .grid) (place x y) EMPTY) + 1 ≡ count isCoin (m .grid) = rw e at b in
     record { cells = simp length-set (s .cells); marks = s .marks; slots = s .slots; few = s .few; placed = s .placed; home = s .home; coins = omega (arith, s .coins) }
@@ -66,7 +66,7 @@ sound-keeps =
     record {
       rests = sound-rested;
       moves = λ m x y nx ny _ f s. sound-carried m x y nx ny (free-inside m nx ny f) (free-empty m nx ny f) s;
-      collects = sound-caught;
+      collects = sound-collected;
       kills = sound-killed;
       squashes = λ m x y i _ e _ _ s. sound-squashed m x y x (y + 1) i (empty-inside (m .grid) x (y + 1) e) (empty-code (m .grid) x (y + 1) e) s;
     }

@@ -35,14 +35,14 @@ without m i =
     withCreatures m (set filled last blankSlot) last
 
 -- a coin is collected and vanishes
-abbrev pub caught : Mine → ℕ → ℕ → Mine
-caught m x y = withCoins (withCell m x y EMPTY) (m .coins + 1)
+abbrev pub coinCollected : Mine → ℕ → ℕ → Mine
+coinCollected m x y = withCoins (withCell m x y EMPTY) (m .coins + 1)
 
 -- player below: if marked, a coin is collected and vanishes, a boulder sets dead; the mark clears
 unfoldable pub overPlayer : Mine → ℕ → ℕ → Mine
 overPlayer m x y =
     cond (not (marked m x y)) (rested m x y)
-    (cond (isCoin (codeAt m x y)) (rested (caught m x y) x y)
+    (cond (isCoin (codeAt m x y)) (rested (coinCollected m x y) x y)
     (rested (killed m) x y))
 
 -- else a creature below: if marked, the creature goes and the object falls; if not, the mark stays clear
