@@ -1,6 +1,6 @@
 -- Drawing on a frame byte by byte, said of its pixels. Assumes nothing.
 use mathlib.Core.Path.{_≡_, refl, sym, ap, ap₂, _∙_}
-use mathlib.Core.Bool.{Bool, true, false, _||_, _&&_, not, or-assoc, or-false, and-or-distrib-left}
+use mathlib.Core.Bool.{Bool, true, false, _||_, _&&_, not, xor, or-assoc, or-false, and-or-distrib-left}
 use mathlib.Core.List.{List}
 use mathlib.Core.Logic.{_⊎_, inl, inr}
 use Prim.Native.Nat.{ℕ, _+_, _-_, _*_, _/_, _%_, _≤_, _<_}
@@ -60,6 +60,12 @@ module _ (op : Bool → Bool → Bool) (on : ℕ → ℕ → ℕ)
 
     pub draw-byte : (a : List ℕ) → Framed a → set a i (on (getD a i 0) v) ≡ drawn op a g
     draw-byte a h = ap (λ (z : List ℕ). set z i (on (getD z i 0) v)) h ∙ draw-packed (pixel a)
+
+-- inverting nothing
+pub xor-false : (b : Bool) → xor b false ≡ b
+unfolding xor
+xor-false true = refl
+xor-false false = refl
 
 -- paper, by `&` and `!`
 pub paper-bits : (f g : ℕ → Bool) → bitAnd (number 8 f) (255 - number 8 g) ≡ number 8 (λ j. f j && not (g j))
