@@ -1,6 +1,6 @@
 -- How a store changes a count. Assumes nothing.
 use mathlib.Core.Bool.{Bool, true, false, cond}
-use mathlib.Core.List.{List, [], _∷_, _++_}
+use mathlib.Core.List.{List, [], _∷_, _++_, map}
 use mathlib.Core.Logic.{⊎-elim}
 use mathlib.Core.Path.{_≡_, refl, sym, _∙_, ap}
 use Prim.Native.Nat.{ℕ, zero, suc, _+_, _≤_, _<_}
@@ -127,3 +127,12 @@ eqb-iff x a y b f g = ⊎-elim (λ e. eq-eqb x a e ∙ sym (eq-eqb y b (f e))) (
 pub tally-same : (a b : ℕ) (l m : List ℕ) (d e : ℕ) → length l ≡ length m → ((c : ℕ) → (getD l c d ≡ a → getD m c e ≡ b) × (getD m c e ≡ b → getD l c d ≡ a)) → tally a l ≡ tally b m
 unfolding tally
 tally-same a b l m d e h s = count-same (λ x. eqb x a) (λ x. eqb x b) l m d e h (λ c k. eqb-iff (getD l c d) a (getD m c e) b (s c .0) (s c .1))
+
+pub count-map : {A B : Type 0} (f : B → Bool) (p : A → B) (l : List A) → count f (map p l) ≡ count (λ x. f (p x)) l
+count-map f p [] = refl
+count-map f p (x ∷ l) = rw (count-map f p l)
+
+-- a test that passes where one of two others does, and both never do
+pub count-plus : {A : Type 0} (f g h : A → Bool) → ((x : A) → bit (f x) ≡ bit (g x) + bit (h x)) → (l : List A) → count f l ≡ count g l + count h l
+count-plus f g h s [] = omega arith
+count-plus f g h s (x ∷ l) = omega (arith, s x, count-plus f g h s l, one-less (f x) (count f l), one-less (g x) (count g l), one-less (h x) (count h l))

@@ -1,13 +1,14 @@
 -- The elements that pass a test: a turn of a loop that keeps them, and their number. Assumes nothing.
 use mathlib.Core.Bool.{Bool, true, false, cond, not}
-use mathlib.Core.List.{List, [], _∷_, _++_, append-nil}
+use mathlib.Core.List.{List, [], _∷_, _++_, map, append-nil}
 use mathlib.Core.Path.{_≡_, refl, ap, _∙_}
 use Prim.Native.Nat.{ℕ, suc, _+_, _<_}
 use native.Mathlib.Numerals.{add-one}
 use native.Mathlib.Omega.{arith}
+use borrow.Author.Tests.{not-true}
 use lib.ListN.{length, getD, take}
 use lib.Seq.{take-suc}
-use Rattle.laws.specs.Lists.{all, count, filter}
+use Rattle.laws.specs.Lists.{all, any, count, filter}
 use Rattle.laws.proofs.Choice.{cond-both, and-both, and-left, and-right}
 
 module _ {A : Type 0} (f : A → Bool) where
@@ -50,6 +51,32 @@ all-filter f g (x ∷ l) a =
     cond-both (λ m. all g m ≡ true) (f x) (x ∷ filter f l) (filter f l)
     (λ _. and-both (g x) (all g (filter f l)) (and-left (g x) (all g l) a) (all-filter f g l (and-right (g x) (all g l) a)))
     (λ _. all-filter f g l (and-right (g x) (all g l) a))
+
+-- and so does what follows from it and from passing
+pub all-passed : {A : Type 0} (f g h : A → Bool) → ((x : A) → f x ≡ true → g x ≡ true → h x ≡ true) → (l : List A) → all g l ≡ true → all h (filter f l) ≡ true
+all-passed f g h s [] a = a
+all-passed f g h s (x ∷ l) a =
+    cond-both (λ m. all h m ≡ true) (f x) (x ∷ filter f l) (filter f l)
+    (λ t. and-both (h x) (all h (filter f l)) (s x t (and-left (g x) (all g l) a)) (all-passed f g h s l (and-right (g x) (all g l) a)))
+    (λ _. all-passed f g h s l (and-right (g x) (all g l) a))
+
+pub all-map : {A B : Type 0} (f : B → Bool) (g : A → Bool) (p : A → B) → ((x : A) → g x ≡ true → f (p x) ≡ true) → (l : List A) → all g l ≡ true → all f (map p l) ≡ true
+all-map f g p s [] a = a
+all-map f g p s (x ∷ l) a = and-both (f (p x)) (all f (map p l)) (s x (and-left (g x) (all g l) a)) (all-map f g p s l (and-right (g x) (all g l) a))
+
+pub all-true : {A : Type 0} (l : List A) → all (λ (_ : A). true) l ≡ true
+all-true [] = refl
+all-true (x ∷ l) = all-true l
+
+-- where no element passes
+module _ {A : Type 0} (f : A → Bool) where
+  pub count-zero : (l : List A) → all (λ x. not (f x)) l ≡ true → count f l ≡ 0
+  count-zero [] a = refl
+  count-zero (x ∷ l) a = rw (not-true (f x) (and-left (not (f x)) (all (λ x. not (f x)) l) a)) (count-zero l (and-right (not (f x)) (all (λ x. not (f x)) l) a))
+
+  pub any-zero : (l : List A) → all (λ x. not (f x)) l ≡ true → any f l ≡ false
+  any-zero [] a = refl
+  any-zero (x ∷ l) a = rw (not-true (f x) (and-left (not (f x)) (all (λ x. not (f x)) l) a)) (any-zero l (and-right (not (f x)) (all (λ x. not (f x)) l) a))
 
 -- two tests that agree on each element of a list
 module _ {A : Type 0} (f g p : A → Bool) (h : (x : A) → p x ≡ true → f x ≡ g x) where

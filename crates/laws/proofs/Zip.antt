@@ -6,7 +6,8 @@ use Prim.Native.Nat.{ℕ, zero, suc, _+_, _<_}
 use native.Mathlib.Nat.{le-of-suc-le-suc, not-suc-le-zero}
 use native.Mathlib.Omega.{arith}
 use lib.ListN.{length, getD}
-use Rattle.laws.specs.Lists.{count, bit}
+use Rattle.laws.specs.Lists.{all, count, bit}
+use Rattle.laws.proofs.Choice.{and-both, and-left, and-right}
 
 module _ {A B C : Type 0} (p : A → B → C) where
   pub length-zipWith : (l : List A) (m : List B) → length l ≡ length m → length (zipWith p l m) ≡ length l
@@ -27,6 +28,13 @@ unfolding zipWith
 zipWith-map p q f h [] m = refl
 zipWith-map p q f h (x ∷ l) [] = refl
 zipWith-map p q f h (x ∷ l) (y ∷ m) = rw (h x y, zipWith-map p q f h l m)
+
+-- what holds of each element made of two
+pub all-zipWith : {A B C : Type 0} (p : A → B → C) (f : C → Bool) (g : A → Bool) → ((x : A) (y : B) → g x ≡ true → f (p x y) ≡ true) → (l : List A) (m : List B) → all g l ≡ true → all f (zipWith p l m) ≡ true
+unfolding zipWith
+all-zipWith p f g h [] m a = refl
+all-zipWith p f g h (x ∷ l) [] a = refl
+all-zipWith p f g h (x ∷ l) (y ∷ m) a = and-both (f (p x y)) (all f (zipWith p l m)) (h x y (and-left (g x) (all g l) a)) (all-zipWith p f g h l m (and-right (g x) (all g l) a))
 
 bit-cond : (b : Bool) (n : ℕ) → cond b (suc n) n ≡ bit b + n
 bit-cond true n = omega arith
