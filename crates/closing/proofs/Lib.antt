@@ -4,3 +4,4 @@ pub mod Match
 pub mod Herds
 pub mod Claims
 pub mod Whole
+pub mod Account

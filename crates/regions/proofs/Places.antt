@@ -1,6 +1,6 @@
 -- Places in the list of counted regions: each region stands there once, so a place and a region say the same. Assumes nothing.
 use mathlib.Core.Path.{_≡_, refl, sym, _∙_}
-use mathlib.Core.Bool.{Bool, true, false, cond, _||_}
+use mathlib.Core.Bool.{Bool, true, false, cond, _||_, false≢true}
 use mathlib.Core.List.{List, [], _∷_, map}
 use mathlib.Core.Logic.{⊎-elim}
 use Prim.Native.Nat.{ℕ, zero, suc, _+_, _≤_, _<_}
@@ -14,6 +14,7 @@ use Rattle.laws.proofs.Choice.{same?}
 use Rattle.laws.proofs.Lists.{getD-default}
 use Rattle.laws.proofs.Counts.{tally-some}
 use Rattle.ground.specs.Cells.{CN}
+use Rattle.regions.proofs.Numbers.{place-at}
 use Rattle.regions.specs.Regions.{rootsFrom, counted, cellsIn, place, later, numbers}
 
 -- to have a place is to be in the list
@@ -94,6 +95,17 @@ roots-own (suc m) c (l ∷ ls) k h =
 -- a counted region has a cell
 pub counted-some : (limit : ℕ) (L : List ℕ) (k : ℕ) → k < length (counted limit L) → 0 < cellsIn L (getD (counted limit L) k CN)
 counted-some limit L k h = let o = roots-own limit 0 L k h in tally-some (getD (counted limit L) k CN) L (o .at) CN (o .inn) (o .own)
+
+-- a counted region begins at a cell of the list
+pub counted-below : (limit : ℕ) (L : List ℕ) (l : ℕ) → any (eqb l) (counted limit L) ≡ true → l < length L
+counted-below limit L l h = go (place l (counted limit L)) refl (sym (place-any l (counted limit L)) ∙ h)
+  where
+    go : (p : ℕ) → place l (counted limit L) ≡ p → ltb 0 p ≡ true → l < length L
+    go zero e t = absurd (false≢true t)
+    go (suc k) e t =
+        let o = roots-own limit 0 L k (omega (arith, place-le l (counted limit L))) in
+        let q = place-at l (counted limit L) k CN e in
+        omega arith
 
 -- the number of a cell
 pub number-at : (limit : ℕ) (L : List ℕ) (c : ℕ) → c < length L → getD (numbers limit L) c 0 ≡ place (getD L c CN) (counted limit L)

@@ -18,7 +18,7 @@ label-regions-requires : tie.Need-label-regions-requires
 label-regions-requires c κs =
     let a = c .before .before .before .before in
     let l : length (a .before .before .args .grid) ≡ CN = search needs in
-    cleared (a .claim-line .last .0) MAX-COMP (ap length (a .claim-line .ensures) ∙ length-claimLine (a .before .before .args .grid) ∙ l) (omega arith)
+    cleared (a .claim-line .last .0) _ (ap length (a .claim-line .ensures) ∙ length-claimLine (a .before .before .args .grid) ∙ l) (omega arith)
 
 count-enemies-requires : tie.Need-count-enemies-requires
 count-enemies-requires c κs =
