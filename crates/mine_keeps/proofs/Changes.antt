@@ -31,6 +31,9 @@ use Rattle.mine_keeps.proofs.Grid.{empty-dug, creatures-dug, shiftedTo,
 pub kept-self : {m : Mine} → WellFormed m → Kept m m
 kept-self w = record { formed = w; coins = refl; stones = refl }
 
+pub kept-then : {m s t : Mine} → Kept m s → Kept s t → Kept m t
+kept-then a b = record { formed = b .formed; coins = b .coins ∙ a .coins; stones = b .stones ∙ a .stones }
+
 -- who is free of others: neither player nor creature is there
 module _ (s : Mine) (x y : ℕ) (f : freeAt s x y ≡ true) where
   pub free-player : playerAt s x y ≡ false

@@ -1,0 +1,45 @@
+-- The keys of a pass: a turn of the loop over them, and what they keep. Assumes nothing.
+use mathlib.Core.Bool.{Bool, true, false, cond}
+use mathlib.Core.List.{List, [], _∷_}
+use mathlib.Core.Path.{_≡_, refl}
+use Prim.Native.Nat.{ℕ, _+_}
+use lib.Dec.{eqb}
+use lib.ListN.{drop}
+use Rattle.laws.proofs.Choice.{cond-both}
+use Rattle.mine_state.specs.declared.Mine.{Mine}
+use Rattle.mine_state.specs.WellFormed.{WellFormed}
+use Rattle.mine_rules.specs.Ways.{UP, RIGHT, DOWN, LEFT}
+use Rattle.mine_keeps.specs.Kept.{Kept}
+use Rattle.mine_keeps.proofs.Changes.{kept-self, kept-then}
+use Rattle.mine_keeps.proofs.Moves.{move-kept}
+use Rattle.mine_pass.specs.Pass.{KEY-QUIT, keyed, played}
+use Rattle.mine_pass.specs.declared.Played.{Played}
+
+-- A loop over the keys: what is left of them makes R of the state.
+module _ (s : Mine) (keys : List ℕ) (i : ℕ) {R : Played} where
+  pub keys-more : {key : ℕ} → drop i keys ≡ key ∷ drop (i + 1) keys → played s (drop i keys) ≡ R → eqb key KEY-QUIT ≡ false → played (keyed s key) (drop (i + 1) keys) ≡ R
+  unfolding played
+  keys-more h e n = rw (h, n) at e
+
+  pub keys-quit : {key : ℕ} → drop i keys ≡ key ∷ drop (i + 1) keys → played s (drop i keys) ≡ R → eqb key KEY-QUIT ≡ true → record { quit = true; game = s } ≡ R
+  unfolding played
+  keys-quit h e n = rw (h, n) at e
+
+  pub keys-end : drop i keys ≡ [] → played s (drop i keys) ≡ R → record { quit = false; game = s } ≡ R
+  unfolding played
+  keys-end h e = rw h at e
+
+pub key-kept : (m : Mine) (key : ℕ) → WellFormed m → Kept m (keyed m key)
+unfolding keyed
+key-kept m key w =
+    cond-both (Kept m) (eqb key 5) _ _ (λ _. move-kept m UP w)
+    (λ _. cond-both (Kept m) (eqb key 8) _ _ (λ _. move-kept m DOWN w)
+    (λ _. cond-both (Kept m) (eqb key 7) _ _ (λ _. move-kept m LEFT w)
+    (λ _. cond-both (Kept m) (eqb key 9) _ _ (λ _. move-kept m RIGHT w) (λ _. kept-self w))))
+
+pub keys-kept : (m : Mine) (keys : List ℕ) → WellFormed m → Kept m (played m keys .game)
+unfolding played
+keys-kept m [] w = kept-self w
+keys-kept m (key ∷ keys) w =
+    cond-both (λ (p : Played). Kept m (p .game)) (eqb key KEY-QUIT) _ _ (λ _. kept-self w)
+    (λ _. let k = key-kept m key w in kept-then k (keys-kept (keyed m key) keys (k .formed)))

@@ -1,0 +1,65 @@
+-- The ways through a pass, each as the definition has it. Assumes nothing.
+use mathlib.Core.Bool.{Bool, true, false, cond}
+use mathlib.Core.List.{List}
+use mathlib.Core.Path.{_≡_, sym, _∙_, ap}
+use Prim.Native.Nat.{ℕ}
+use Rattle.refusal.specs.Refusal.{NONE}
+use Rattle.refusal.proofs.Calls.{refused-by, answered-by}
+use Rattle.answer.specs.declared.Answer.the-variants.{GoingOn, Won, Dead, Quit}
+use Rattle.pace.specs.declared.Ticks.{Ticks}
+use Rattle.pace.specs.Pace.{ticked}
+use Rattle.mine_state.specs.declared.Mine.{Mine}
+use Rattle.mine_state.specs.WellFormed.{refusalOf}
+use Rattle.mine_rules.specs.Tick as Tick
+use Rattle.mine_rules.specs.Gravity.{gravityOf}
+use Rattle.mine_pass.specs.declared.Played.{Played}
+use Rattle.mine_pass.specs.declared.MineTurn.{MineTurn}
+use Rattle.mine_pass.specs.Pass.{GRAVITY-CYCLES, ENEMY-CYCLES, played, still, afterKeys, passOn, passAt}
+
+module _ (first second time : ℕ) (p : Played) where
+  after-quit : p .quit ≡ true → still first second NONE Quit (p .game) ≡ afterKeys first second time p
+  unfolding afterKeys
+  after-quit k = rw k
+
+  after-ticks : p .quit ≡ false → {due : Ticks} → due ≡ ticked time first second GRAVITY-CYCLES ENEMY-CYCLES
+      → {fallen : Mine} → fallen ≡ cond (due .one) (gravityOf (p .game)) (p .game) → {game : Mine} → game ≡ cond (due .two) (Tick.ticked fallen) fallen
+      → record { first = due .first; second = due .second; passed = record { refusal = NONE; answer = GoingOn; game = game } } ≡ afterKeys first second time p
+  unfolding afterKeys
+  after-ticks k t f g = rw (k, g, f, t)
+
+module _ (m : Mine) (keys : List ℕ) (time first second : ℕ) where
+  pub refused-pass : {no : ℕ} → no ≡ refusalOf m → (no ≡ NONE → ⊥) → still first second no GoingOn m ≡ passAt m keys time first second
+  unfolding passAt
+  refused-pass e n =
+      ap (λ (k : ℕ). still first second k GoingOn m) e
+      ∙ sym (refused-by (λ k. still first second k GoingOn m) (passOn first second m keys time) (refusalOf m) (λ z. n (e ∙ z)))
+
+  module _ {no : ℕ} (e : no ≡ refusalOf m) (z : no ≡ NONE) where
+    none : refusalOf m ≡ NONE
+    none = sym e ∙ z
+
+    pub won-pass : m .won ≡ true → still first second NONE Won m ≡ passAt m keys time first second
+    unfolding passAt passOn
+    won-pass w = rw (none, w)
+
+    module _ (w : m .won ≡ false) where
+      pub dead-pass : m .dead ≡ true → still first second NONE Dead m ≡ passAt m keys time first second
+      unfolding passAt passOn
+      dead-pass d = rw (none, w, d)
+
+      after-keys : m .dead ≡ false → afterKeys first second time (played m keys) ≡ passAt m keys time first second
+      unfolding passAt passOn
+      after-keys d = rw (none, w, d)
+
+      -- p is what the keys make of the state
+      module _ (d : m .dead ≡ false) {p : Played} (q : p ≡ played m keys) where
+        keyed-pass : afterKeys first second time p ≡ passAt m keys time first second
+        keyed-pass = ap (afterKeys first second time) q ∙ after-keys d
+
+        pub quit-pass : p .quit ≡ true → still first second NONE Quit (p .game) ≡ passAt m keys time first second
+        quit-pass k = after-quit first second time p k ∙ keyed-pass
+
+        pub ticks-pass : p .quit ≡ false → {due : Ticks} → due ≡ ticked time first second GRAVITY-CYCLES ENEMY-CYCLES
+            → {fallen : Mine} → fallen ≡ cond (due .one) (gravityOf (p .game)) (p .game) → {game : Mine} → game ≡ cond (due .two) (Tick.ticked fallen) fallen
+            → record { first = due .first; second = due .second; passed = record { refusal = NONE; answer = GoingOn; game = game } } ≡ passAt m keys time first second
+        ticks-pass k t f g = after-ticks first second time p k t f g ∙ keyed-pass

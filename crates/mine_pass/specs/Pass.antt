@@ -1,0 +1,73 @@
+-- Document 01, 'One pass, and the pacing record': one turn of Block Mine's loop, on the numbers of the record.
+use mathlib.Core.Bool.{Bool, true, false, cond}
+use mathlib.Core.List.{List, [], _∷_}
+use Prim.Native.Nat.{ℕ}
+use lib.Dec.{eqb}
+use Rattle.refusal.specs.Refusal.{NONE, refusedOr}
+use Rattle.answer.specs.declared.Answer.{Answer}
+use Rattle.answer.specs.declared.Answer.the-variants.{GoingOn, Won, Dead, Quit}
+use Rattle.pace.specs.declared.Pace.{Pace}
+use Rattle.pace.specs.declared.Ticks.{Ticks}
+use Rattle.pace.specs.Pace.{ticked}
+use Rattle.mine_state.specs.declared.Mine.{Mine}
+use Rattle.mine_state.specs.WellFormed.{refusalOf}
+use Rattle.mine_rules.specs.Ways.{UP, RIGHT, DOWN, LEFT}
+use Rattle.mine_rules.specs.Move.{moved}
+use Rattle.mine_rules.specs.Tick as Tick
+use Rattle.mine_rules.specs.Gravity.{gravityOf}
+use Rattle.mine_pass.specs.declared.Played.{Played}
+use Rattle.mine_pass.specs.declared.MineTurn.{MineTurn}
+
+-- gravity 12,000,000, creatures 36,000,000
+abbrev pub GRAVITY-CYCLES : ℕ
+GRAVITY-CYCLES = 12000000
+
+abbrev pub ENEMY-CYCLES : ℕ
+ENEMY-CYCLES = 36000000
+
+abbrev pub KEY-QUIT : ℕ
+KEY-QUIT = 10
+
+-- 5, 8, 7, 9 are up, down, left, right; others are ignored
+unfoldable pub keyed : Mine → ℕ → Mine
+keyed m key =
+    cond (eqb key 5) (moved m UP)
+    (cond (eqb key 8) (moved m DOWN)
+    (cond (eqb key 7) (moved m LEFT)
+    (cond (eqb key 9) (moved m RIGHT) m)))
+
+-- all keys in order; 10 quits at once, earlier moves standing
+unfoldable pub played : Mine → List ℕ → Played
+played m [] = record { quit = false; game = m }
+played m (key ∷ keys) = cond (eqb key KEY-QUIT) (record { quit = true; game = m }) (played (keyed m key) keys)
+
+-- gravity if due, then creatures if due
+abbrev pub paced : Mine → Ticks → Mine
+paced m due =
+    let fallen : Mine = cond (due .one) (gravityOf m) m in
+    cond (due .two) (Tick.ticked fallen) fallen
+
+module _ (first second : ℕ) where
+  -- the record as it was
+  abbrev pub still : ℕ → Answer → Mine → MineTurn
+  still refusal answer m = record { first = first; second = second; passed = record { refusal = refusal; answer = answer; game = m } }
+
+  -- quit: no ticks; else both ticks of the reading
+  unfoldable pub afterKeys : ℕ → Played → MineTurn
+  afterKeys time p =
+      let due : Ticks = ticked time first second GRAVITY-CYCLES ENEMY-CYCLES in
+      cond (p .quit) (still NONE Quit (p .game))
+      (record { first = due .first; second = due .second; passed = record { refusal = NONE; answer = GoingOn; game = paced (p .game) due } })
+
+  -- won ends the round, else dead ends it, nothing changed; then the keys
+  unfoldable pub passOn : Mine → List ℕ → ℕ → MineTurn
+  passOn m keys time = cond (m .won) (still NONE Won m) (cond (m .dead) (still NONE Dead m) (afterKeys time (played m keys)))
+
+-- a refused pass leaves state and record, and answers going on
+unfoldable pub passAt : Mine → List ℕ → ℕ → ℕ → ℕ → MineTurn
+passAt m keys time first second =
+    refusedOr (refusalOf m) (λ n. still first second n GoingOn m) (passOn first second m keys time)
+
+-- the record after
+abbrev pub marksOf : MineTurn → Pace
+marksOf t = record { first = t .first; second = t .second }
