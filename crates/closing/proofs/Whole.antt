@@ -10,6 +10,7 @@ use Rattle.laws.specs.Lists.{all, filter}
 use Rattle.ground.specs.Cells.{CN}
 use Rattle.ground.specs.declared.Mover.{Mover}
 use Rattle.joined.specs.Joined.{Right}
+use Rattle.joined.proofs.Joined.{right-unique}
 use Rattle.joined.proofs.Labels.{labels}
 use Rattle.regions.specs.Regions.{MAX-COMP, rootsFrom, counted, place, numbers, Labelled}
 use Rattle.regions.specs.Seeking.{Cleared}
@@ -60,3 +61,8 @@ module _ {limit : ℕ} {g N S : List ℕ} {n : ℕ} (len : length g ≡ CN) (lab
 pub closed-line : (limit : ℕ) (grid g : List ℕ) (es : List Mover) → g ≡ claimLine grid → closed limit g (labels g .0) es ≡ closeCut limit grid es
 unfolding closeCut
 closed-line limit grid g es e = ap (λ (x : List ℕ). closed limit x (labels x .0) es) e
+
+-- the closing by any right labelling of the grid whose line is claimed
+pub closing-by : (limit : ℕ) (g L : List ℕ) (es : List Mover) → length g ≡ CN → Right (claimLine g) L → closeCut limit g es ≡ closed limit (claimLine g) L es
+unfolding closeCut
+closing-by limit g L es len R = ap (λ (M : List ℕ). closed limit (claimLine g) M es) (right-unique (labels (claimLine g) .1 (length-claimLine g ∙ len)) R)
