@@ -71,41 +71,21 @@ all-table f (suc n) p h = all-append f (table n p) (p n ∷ []) ∙ and-both (al
 
 -- ---- the level
 
-fresh-cells : length freshGrid ≡ CN
-unfolding freshGrid
-fresh-cells = refl
+-- what its grid is, each part by computing it
+record Ground (g : List ℕ) : Type 0 where
+  cells : length g ≡ CN
+  codes : all isCode g ≡ true
+  rows : rowsFilled g ≡ true
+  columns : columnsFilled g ≡ true
+  unlined : any isTrail g ≡ false
+  start : holdsAt g CB-FILLED (CW / 2) 0 ≡ true
+  black : tally CB-BLACK g ≡ INNER
+  claimed : tally CB-FILLED g ≡ RING
+  line : tally CB-TRAIL g ≡ 0
 
-fresh-codes : all isCode freshGrid ≡ true
-unfolding freshGrid
-fresh-codes = refl
-
-fresh-rows : rowsFilled freshGrid ≡ true
-unfolding freshGrid rowsFilled
-fresh-rows = refl
-
-fresh-columns : columnsFilled freshGrid ≡ true
-unfolding freshGrid columnsFilled
-fresh-columns = refl
-
-fresh-trail : any isTrail freshGrid ≡ false
-unfolding freshGrid
-fresh-trail = refl
-
-fresh-player : holdsAt freshGrid CB-FILLED (CW / 2) 0 ≡ true
-unfolding freshGrid holdsAt
-fresh-player = refl
-
-fresh-black : tally CB-BLACK freshGrid ≡ INNER
-unfolding freshGrid tally
-fresh-black = refl
-
-fresh-claimed : tally CB-FILLED freshGrid ≡ RING
-unfolding freshGrid tally
-fresh-claimed = refl
-
-fresh-line : tally CB-TRAIL freshGrid ≡ 0
-unfolding freshGrid tally
-fresh-line = refl
+ground : Ground freshGrid
+unfolding freshGrid rowsFilled columnsFilled holdsAt tally
+ground = record { cells = refl; codes = refl; rows = refl; columns = refl; unlined = refl; start = refl; black = refl; claimed = refl; line = refl }
 
 pub level-fresh : (c : Cutter) (draws : List ℕ) → c .lives ≤ MAX-LIVES → 1 ≤ c .level → c .level ≤ MAX-LEVEL → drawsOk draws (creaturesOf (c .level)) ≡ true → Fresh (freshLevel c draws)
 unfolding freshLevel atStart
@@ -116,12 +96,12 @@ level-fresh c draws h a b o =
     let len = length-table n (drawn draws) in
     record {
       formed = record {
-        cells = fresh-cells;
-        codes = fresh-codes;
-        rows = fresh-rows;
-        columns = fresh-columns;
-        line = fresh-trail;
-        player = fresh-player;
+        cells = ground .cells;
+        codes = ground .codes;
+        rows = ground .rows;
+        columns = ground .columns;
+        line = ground .unlined;
+        player = ground .start;
         direction = refl;
         slots = slots-length es n len few;
         few = few;
@@ -130,8 +110,8 @@ level-fresh c draws h a b o =
         lives = h;
         level = (a, b);
       };
-      black = fresh-black;
-      claimed = fresh-claimed;
-      line = fresh-line;
+      black = ground .black;
+      claimed = ground .claimed;
+      line = ground .line;
       creatures = refl;
     }

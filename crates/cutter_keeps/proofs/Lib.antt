@@ -5,3 +5,7 @@ pub mod Direction
 pub mod Tick
 pub mod Level
 pub mod Laying
+pub mod Respawn
+pub mod Closing
+pub mod Steps
+pub mod Accounts
