@@ -1,3 +1,3 @@
+pub mod Answers
 pub mod Keys
 pub mod Kept
-pub mod Turns

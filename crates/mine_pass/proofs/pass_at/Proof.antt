@@ -6,7 +6,7 @@ use Rattle.mine_state.proofs.Facts.{facts, none-well-formed}
 use Rattle.mine_pass.specs.declared.Played.{Played}
 use Rattle.mine_pass.proofs.Keys.{keys-kept}
 use Rattle.mine_pass.proofs.Kept.{fallen-kept}
-use Rattle.mine_pass.proofs.Turns.{refused-pass, won-pass, dead-pass, quit-pass, ticks-pass}
+use Rattle.mine_pass.proofs.Answers.{refused-pass, won-pass, dead-pass, quit-pass, ticks-pass}
 use Rattle.mine_pass.proofs.pass_at.Statement.{statement}
 use Rattle.mine_pass.proofs.pass_at.Tie as tie
 use Rattle.mine_pass.proofs.pass_at.Reads as reads
