@@ -1,5 +1,5 @@
 -- The player's step: it closes a cut, lays line, or leaves the numbers as they are. Assumes nothing.
-use mathlib.Core.Bool.{Bool, true, false, _&&_, true≢false}
+use mathlib.Core.Bool.{Bool, true, false, not, _&&_, true≢false}
 use mathlib.Core.List.{List}
 use mathlib.Core.Logic.{⊎-elim}
 use mathlib.Core.Path.{_≡_, refl, sym, _∙_, ap}
@@ -7,9 +7,9 @@ use Prim.Native.Nat.{ℕ, _<_}
 use native.Mathlib.Omega.{arith}
 use lib.Dec.{eqb, leb, ltb}
 use lib.IntN.{pos}
-use borrow.Author.Tests.{eqb-true, eqb-false, leb-true, leb-false, lt-ltb, le-ltb, not-true}
+use borrow.Author.Tests.{eqb-true, eqb-false, leb-true, leb-false, ltb-true, lt-leb, lt-ltb, le-ltb, not-true}
 use Rattle.laws.specs.Lists.{any}
-use Rattle.laws.proofs.Choice.{cond-both, bool-cases}
+use Rattle.laws.proofs.Choice.{cond-both, bool-cases, and-left, and-right, and-three}
 use Rattle.laws.proofs.Lists.{all-at, any-at}
 use Rattle.found.specs.First.{nobody}
 use Rattle.found.specs.declared.Found.{Found}
@@ -20,7 +20,7 @@ use Rattle.cutter_state.specs.declared.Cutter.{Cutter}
 use Rattle.cutter_state.specs.State.{creatures}
 use Rattle.cutter_state.specs.WellFormed.{isCode, isTrail, WellFormed}
 use Rattle.cutter_rules.specs.Tick.{creatureAt, lineAt}
-use Rattle.cutter_rules.specs.Step.{noDirection, target, claimedAt, trailingStep, walkingStep, met, stepped}
+use Rattle.cutter_rules.specs.Step.{noDirection, target, claimedAt, entered, cutClosed, atBorder, trailingStep, walkingStep, met, stepped}
 use Rattle.cutter_keeps.specs.Kept.{Kept, Laid, Closed}
 use Rattle.cutter_keeps.specs.Steps.{advances, closes, lays, takenBy, goneBy, Stepped}
 use Rattle.cutter_keeps.proofs.Changes.{kept-self, kept-player, kept-direction, kept-dead}
@@ -120,3 +120,18 @@ step-stepped c w =
     (λ d. cond-both (Stepped c) (leb CN (target c)) _ _
     (λ l. halted (advances-by w d false (creatureAt (creatures c) (target c)) (le-ltb (target c) CN (leb-true CN (target c) l)) refl) (kept-direction (kept-self w) (pos 0) (pos 0) refl))
     (λ l. met-stepped w (creatureAt (creatures c) (target c)) d (leb-false CN (target c) l) refl))
+
+-- ---- a step that closes is what document 01 says of it
+
+found-nobody : (f : Found) → nobody f ≡ true → f ≡ Nobody
+found-nobody (At i) e = absurd (true≢false (sym e))
+found-nobody Nobody e = refl
+
+pub closes-step : (c : Cutter) → closes c ≡ true → stepped c ≡ atBorder (cutClosed (entered c (target c)))
+unfolding closes advances stepped met trailingStep
+closes-step c e =
+    let f = creatureAt (creatures c) (target c) in
+    let a = and-three (not (noDirection c)) (ltb (target c) CN) (nobody f) (and-left (advances c) (c .trailing && claimedAt (c .grid) (target c)) e) in
+    let r = and-right (advances c) (c .trailing && claimedAt (c .grid) (target c)) e in
+    let k = eqb-true (cellAt (c .grid) (target c)) CB-FILLED (and-right (c .trailing) (claimedAt (c .grid) (target c)) r) in
+    rw (not-true (noDirection c) (a .0), lt-leb CN (target c) (ltb-true (target c) CN (a .1)), found-nobody f (a .2), and-left (c .trailing) (claimedAt (c .grid) (target c)) r, k)
