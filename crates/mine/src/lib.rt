@@ -9,3 +9,8 @@ pub use calls::move_enemies;
 pub use calls::step_player;
 pub use question::who;
 pub use question::who_of;
+
+mod turn;
+
+pub use turn::pass;
+pub use turn::pass_marks;
