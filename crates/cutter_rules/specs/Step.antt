@@ -21,7 +21,20 @@ use Rattle.cutter_rules.specs.Tick.{creatureAt, lineAt}
 
 -- ---- direction
 
--- the unit step for 0 to 3, numbered as in a move: up, right, down, left
+-- numbered as in a move
+abbrev pub UP : ℕ
+UP = 0
+
+abbrev pub RIGHT : ℕ
+RIGHT = 1
+
+abbrev pub DOWN : ℕ
+DOWN = 2
+
+abbrev pub LEFT : ℕ
+LEFT = 3
+
+-- the unit step for 0 to 3: up, right, down, left
 unfoldable pub unitX : ℕ → ℤ
 unitX zero = pos 0
 unitX (suc zero) = pos 1

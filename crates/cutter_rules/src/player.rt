@@ -26,6 +26,14 @@ use ground::CW;
 use ground::cell;
 use ground::on_border;
 
+pub const UP: u8 = 0;
+
+pub const RIGHT: u8 = 1;
+
+pub const DOWN: u8 = 2;
+
+pub const LEFT: u8 = 3;
+
 fn turn_to(c: Cutter, dx: i8, dy: i8) -> Cutter
     ensures { λ r. ⌜ r ≡ withDirection c dx dy ⌝ }
 {
@@ -35,14 +43,14 @@ fn turn_to(c: Cutter, dx: i8, dy: i8) -> Cutter
     out
 }
 
-// 0 up, 1 right, 2 down, 3 left.
+// The direction becomes the unit step that way.
 pub fn direction(c: Cutter, dir: u8) -> Cutter
     ensures { λ r. ⌜ r ≡ directed c dir ⌝ }
 {
     match dir {
-        0 => turn_to(c, 0, -1),
-        1 => turn_to(c, 1, 0),
-        2 => turn_to(c, 0, 1),
+        UP => turn_to(c, 0, -1),
+        RIGHT => turn_to(c, 1, 0),
+        DOWN => turn_to(c, 0, 1),
         _ => turn_to(c, -1, 0),
     }
 }
