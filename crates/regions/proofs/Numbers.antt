@@ -24,6 +24,19 @@ later-some : (p q : ℕ) → p ≡ q + 1 → later p ≡ q + 2
 later-some zero q e = absurd (omega arith)
 later-some (suc p) q e = omega arith
 
+-- a list of labels with a region's earliest cell in front, and with another cell
+pub roots-none : (c : ℕ) → rootsFrom c [] ≡ []
+unfolding rootsFrom
+roots-none c = refl
+
+pub roots-root : (c l : ℕ) (ls : List ℕ) → l ≡ c → rootsFrom c (l ∷ ls) ≡ c ∷ rootsFrom (suc c) ls
+unfolding rootsFrom
+roots-root c l ls e = rw (eq-eqb l c e)
+
+pub roots-pass : (c l : ℕ) (ls : List ℕ) → (l ≡ c → ⊥) → rootsFrom c (l ∷ ls) ≡ rootsFrom (suc c) ls
+unfolding rootsFrom
+roots-pass c l ls e = rw (ne-eqb l c e)
+
 module _ (L : List ℕ) where
   -- ls is what L holds from c on
   Tail : ℕ → List ℕ → Type 0
@@ -42,14 +55,6 @@ module _ (L : List ℕ) where
 
   rank-suc-pass : (c : ℕ) → (getD L c CN ≡ c → ⊥) → rank L (suc c) ≡ rank L c
   rank-suc-pass c e = subst (λ (n : ℕ). rank L n ≡ rank L c) (add-one c) (rank-pass L c e)
-
-  roots-root : (c l : ℕ) (ls : List ℕ) → l ≡ c → rootsFrom c (l ∷ ls) ≡ c ∷ rootsFrom (suc c) ls
-  unfolding rootsFrom
-  roots-root c l ls e = rw (eq-eqb l c e)
-
-  roots-pass : (c l : ℕ) (ls : List ℕ) → (l ≡ c → ⊥) → rootsFrom c (l ∷ ls) ≡ rootsFrom (suc c) ls
-  unfolding rootsFrom
-  roots-pass c l ls e = rw (ne-eqb l c e)
 
   -- a number that no cell from c on can be
   place-far : (limit x c : ℕ) (ls : List ℕ) → c + length ls ≤ x → place x (take limit (rootsFrom c ls)) ≡ 0

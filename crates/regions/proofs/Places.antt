@@ -14,7 +14,7 @@ use Rattle.laws.proofs.Choice.{same?}
 use Rattle.laws.proofs.Lists.{getD-default}
 use Rattle.laws.proofs.Counts.{tally-some}
 use Rattle.ground.specs.Cells.{CN}
-use Rattle.regions.proofs.Numbers.{place-at}
+use Rattle.regions.proofs.Numbers.{place-at, roots-none, roots-root, roots-pass}
 use Rattle.regions.specs.Regions.{rootsFrom, counted, cellsIn, place, later, numbers}
 
 -- to have a place is to be in the list
@@ -46,12 +46,11 @@ cons-above c l zero f h = omega arith
 cons-above c l (suc k) f h = omega (arith, f k (omega arith))
 
 roots-above : (limit c : ℕ) (ls : List ℕ) (k : ℕ) → k < length (take limit (rootsFrom c ls)) → c ≤ getD (take limit (rootsFrom c ls)) k CN
-unfolding rootsFrom
 roots-above zero c ls k h = absurd (not-suc-le-zero h)
-roots-above (suc m) c [] k h = absurd (not-suc-le-zero h)
+roots-above (suc m) c [] k h = absurd (not-suc-le-zero (rw (roots-none c) at h))
 roots-above (suc m) c (l ∷ ls) k h =
-    ⊎-elim (λ e. rw (eq-eqb l c e) (cons-above c (take m (rootsFrom (suc c) ls)) k (roots-above m (suc c) ls) (rw (eq-eqb l c e) at h)))
-    (λ e. rw (ne-eqb l c e) (omega (arith, roots-above (suc m) (suc c) ls k (rw (ne-eqb l c e) at h)))) (same? l c)
+    ⊎-elim (λ e. rw (roots-root c l ls e) (cons-above c (take m (rootsFrom (suc c) ls)) k (roots-above m (suc c) ls) (rw (roots-root c l ls e) at h)))
+    (λ e. rw (roots-pass c l ls e) (omega (arith, roots-above (suc m) (suc c) ls k (rw (roots-pass c l ls e) at h)))) (same? l c)
 
 -- the region at a place has that place
 cons-place : (c : ℕ) (l : List ℕ) (k : ℕ) → ((j : ℕ) → j < length l → suc c ≤ getD l j CN) → ((j : ℕ) → j < length l → place (getD l j CN) l ≡ suc j) → k < length (c ∷ l) → place (getD (c ∷ l) k CN) (c ∷ l) ≡ suc k
@@ -60,12 +59,11 @@ cons-place c l zero f g h = rw (eq-eqb c c refl)
 cons-place c l (suc k) f g h = let a = f k (omega arith) in rw (ne-eqb (getD l k CN) c (λ e. omega arith), g k (omega arith))
 
 place-get : (limit c : ℕ) (ls : List ℕ) (k : ℕ) → k < length (take limit (rootsFrom c ls)) → place (getD (take limit (rootsFrom c ls)) k CN) (take limit (rootsFrom c ls)) ≡ suc k
-unfolding rootsFrom
 place-get zero c ls k h = absurd (not-suc-le-zero h)
-place-get (suc m) c [] k h = absurd (not-suc-le-zero h)
+place-get (suc m) c [] k h = absurd (not-suc-le-zero (rw (roots-none c) at h))
 place-get (suc m) c (l ∷ ls) k h =
-    ⊎-elim (λ e. rw (eq-eqb l c e) (cons-place c (take m (rootsFrom (suc c) ls)) k (roots-above m (suc c) ls) (place-get m (suc c) ls) (rw (eq-eqb l c e) at h)))
-    (λ e. rw (ne-eqb l c e) (place-get (suc m) (suc c) ls k (rw (ne-eqb l c e) at h))) (same? l c)
+    ⊎-elim (λ e. rw (roots-root c l ls e) (cons-place c (take m (rootsFrom (suc c) ls)) k (roots-above m (suc c) ls) (place-get m (suc c) ls) (rw (roots-root c l ls e) at h)))
+    (λ e. rw (roots-pass c l ls e) (place-get (suc m) (suc c) ls k (rw (roots-pass c l ls e) at h))) (same? l c)
 
 pub counted-place : (limit : ℕ) (L : List ℕ) (k : ℕ) → k < length (counted limit L) → place (getD (counted limit L) k CN) (counted limit L) ≡ suc k
 counted-place limit L k h = place-get limit 0 L k h
@@ -85,12 +83,11 @@ own-cons rs zero e f h = record { at = 0; sum = omega arith; inn = omega arith; 
 own-cons rs (suc k) e f h = own-next (f k (omega arith))
 
 roots-own : (limit c : ℕ) (ls : List ℕ) (k : ℕ) → k < length (take limit (rootsFrom c ls)) → Own c ls (getD (take limit (rootsFrom c ls)) k CN)
-unfolding rootsFrom
 roots-own zero c ls k h = absurd (not-suc-le-zero h)
-roots-own (suc m) c [] k h = absurd (not-suc-le-zero h)
+roots-own (suc m) c [] k h = absurd (not-suc-le-zero (rw (roots-none c) at h))
 roots-own (suc m) c (l ∷ ls) k h =
-    ⊎-elim (λ e. rw (eq-eqb l c e) (own-cons (take m (rootsFrom (suc c) ls)) k e (roots-own m (suc c) ls) (rw (eq-eqb l c e) at h)))
-    (λ e. rw (ne-eqb l c e) (own-next (roots-own (suc m) (suc c) ls k (rw (ne-eqb l c e) at h)))) (same? l c)
+    ⊎-elim (λ e. rw (roots-root c l ls e) (own-cons (take m (rootsFrom (suc c) ls)) k e (roots-own m (suc c) ls) (rw (roots-root c l ls e) at h)))
+    (λ e. rw (roots-pass c l ls e) (own-next (roots-own (suc m) (suc c) ls k (rw (roots-pass c l ls e) at h)))) (same? l c)
 
 -- a counted region has a cell
 pub counted-some : (limit : ℕ) (L : List ℕ) (k : ℕ) → k < length (counted limit L) → 0 < cellsIn L (getD (counted limit L) k CN)
