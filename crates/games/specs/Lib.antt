@@ -1,0 +1,2 @@
+pub mod MineCalls
+pub mod MineAccounts
