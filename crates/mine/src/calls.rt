@@ -56,7 +56,7 @@ pub fn gravity(m: Mine) -> MineAnswer
     }
     MineAnswer {
         refusal: refusal::NONE,
-        game: mine_rules::gravity(m),
+        game: mine_fall::gravity(m),
     }
 }
 

@@ -4,6 +4,4 @@ pub mod Reading
 pub mod Start
 pub mod GravityKeeps
 pub mod GravitySound
-pub mod GravityLoops
-pub mod GravityLent
 pub mod Cases

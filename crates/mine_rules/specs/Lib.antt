@@ -2,6 +2,5 @@ pub mod Ways
 pub mod Load
 pub mod Move
 pub mod Gravity
-pub mod Falls
 pub mod Tick
 pub mod Cases

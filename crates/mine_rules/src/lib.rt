@@ -1,11 +1,9 @@
 // Block Mine: the rules, on well-formed states.
-mod fall;
 mod level;
 mod moves;
 mod ticks;
 mod ways;
 
-pub use fall::gravity;
 pub use level::load;
 pub use moves::step_player;
 pub use ticks::move_enemies;

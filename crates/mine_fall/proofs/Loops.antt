@@ -10,10 +10,10 @@ use Rattle.mine_state.specs.declared.Mine.{Mine}
 use Rattle.mine_state.specs.State.{W, place, codeAt}
 use Rattle.mine_state.specs.Spots.{spotsFrom, Stand}
 use Rattle.mine_state.specs.WellFormed.{Sound}
 use Rattle.mine_rules.specs.Gravity.{isObject, cellFall, rowFall}
-use Rattle.mine_rules.specs.Falls.{Quietly}
+use Rattle.mine_fall.specs.Falls.{Quietly}
 use Rattle.mine_rules.proofs.GravityKeeps.{cell-keeps}
 use Rattle.mine_rules.proofs.GravitySound.{sound-keeps}
 
 abbrev cellOf : ℕ → Mine → ℕ → Mine
 cellOf y s x = cellFall s x y

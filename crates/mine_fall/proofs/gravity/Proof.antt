@@ -9,17 +9,17 @@ use Rattle.mine_state.specs.declared.Mine.{Mine}
 use Rattle.mine_state.specs.State.{W, H, AREA, MAX-ENEMIES}
 use Rattle.mine_state.specs.Spots.{spotsFrom}
 use Rattle.mine_state.proofs.Places.{spots-without, length-spots}
-use Rattle.mine_rules.specs.declared.fall.Fell.{Fell}
-use Rattle.mine_rules.specs.declared.fall.Fell.the-variants.{Squashed}
+use Rattle.mine_fall.specs.declared.Fell.{Fell}
+use Rattle.mine_fall.specs.declared.Fell.the-variants.{Squashed}
 use Rattle.mine_rules.specs.Gravity.{cellFall, gravityOf, without}
-use Rattle.mine_rules.specs.Falls.{whole, happened, lent, Below}
-use Rattle.mine_rules.proofs.GravityLoops.{During, rowsLeft, cellsLeft, stands, turn, row-begins, row-ends, row-passed, rows-done}
-use Rattle.mine_rules.proofs.fall.gravity.Statement.{statement}
-use Rattle.mine_rules.proofs.fall.gravity.Tie as tie
-use Rattle.mine_rules.proofs.fall.gravity.Reads as reads
-use Rattle.mine_rules.proofs.fall.gravity.Lts as lts
-use Rattle.mine_rules.proofs.fall.cell_fall.Reads as cell-fall-reads
-use Rattle.mine_rules.proofs.fall.quiet.Reads as quiet-reads
+use Rattle.mine_fall.specs.Falls.{whole, happened, lent, Below}
+use Rattle.mine_fall.proofs.Loops.{During, rowsLeft, cellsLeft, stands, turn, row-begins, row-ends, row-passed, rows-done}
+use Rattle.mine_fall.proofs.gravity.Statement.{statement}
+use Rattle.mine_fall.proofs.gravity.Tie as tie
+use Rattle.mine_fall.proofs.gravity.Reads as reads
+use Rattle.mine_fall.proofs.gravity.Lts as lts
+use Rattle.mine_fall.proofs.cell_fall.Reads as cell-fall-reads
+use Rattle.mine_fall.proofs.quiet.Reads as quiet-reads
 use Rattle.mine_state.proofs.spots_of.Reads as spots-of-reads
 
 abbrev Inv-loop2 : tie.InvT-loop2

@@ -8,15 +8,15 @@ use borrow.Author.Needs.{needs}
 use borrow.Author.Tests.{lt-ltb, le-ltb}
 use Rattle.mine_state.specs.declared.Mine.{Mine}
 use Rattle.mine_state.specs.Spots.{Stand}
 use Rattle.mine_rules.specs.Gravity.{openSide, rolled}
-use Rattle.mine_rules.specs.Falls.{lent}
-use Rattle.mine_rules.proofs.GravityLent.{is-open, open-inside}
-use Rattle.mine_rules.proofs.fall.roll.Statement.{statement}
-use Rattle.mine_rules.proofs.fall.roll.Tie as tie
-use Rattle.mine_rules.proofs.fall.roll.Reads as reads
-use Rattle.mine_rules.proofs.fall.roll.Lts as lts
-use Rattle.mine_rules.proofs.fall.move_obj.Reads as move-obj-reads
-use Rattle.mine_rules.proofs.fall.open_side.Reads as open-side-reads
+use Rattle.mine_fall.specs.Falls.{lent}
+use Rattle.mine_fall.proofs.Lent.{is-open, open-inside}
+use Rattle.mine_fall.proofs.roll.Statement.{statement}
+use Rattle.mine_fall.proofs.roll.Tie as tie
+use Rattle.mine_fall.proofs.roll.Reads as reads
+use Rattle.mine_fall.proofs.roll.Lts as lts
+use Rattle.mine_fall.proofs.move_obj.Reads as move-obj-reads
+use Rattle.mine_fall.proofs.open_side.Reads as open-side-reads
 
 -- past the left side: there is none, or it is not open
 abbrev Past : Type 0

@@ -9,9 +9,9 @@ use Rattle.mine_state.specs.declared.Enemy.{Enemy}
 use Rattle.mine_state.specs.State.{AREA, MAX-ENEMIES, codeIn, CellOf}
 use Rattle.mine_state.specs.Spots.{freeSpot, Stand}
 use Rattle.mine_state.specs.Change.{withGrid, withMarks, withCoins, killed}
-use Rattle.mine_rules.specs.declared.fall.Fell.{Fell}
-use Rattle.mine_rules.specs.declared.fall.Fell.the-variants.{Quiet, Collected, Crushed, Squashed}
+use Rattle.mine_fall.specs.declared.Fell.{Fell}
+use Rattle.mine_fall.specs.declared.Fell.the-variants.{Quiet, Collected, Crushed, Squashed}
 use Rattle.mine_rules.specs.Gravity.{isObject, without}
 
 -- a cell of a lent grid and its marks
 pub record LentCell (g : List ℕ) (f : List Bool) (x y : ℕ) : Type 0 where

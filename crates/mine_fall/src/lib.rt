@@ -22,9 +22,9 @@ ghost use Prim.Native.Nat.{_<_, _+_};
 ghost use Rattle.mine_state.specs.State.{W, CellOf};
 ghost use Rattle.mine_state.specs.Spots.{Lent};
 ghost use Rattle.mine_state.specs.WellFormed.{Sound};
-ghost use Rattle.mine_rules.specs.declared.fall.Fell.the-variants.{Quiet};
+ghost use Rattle.mine_fall.specs.declared.Fell.the-variants.{Quiet};
 ghost use Rattle.mine_rules.specs.Gravity.{isObject, carried, overPlayer, overEmpty, rolled, cellFall, gravityOf};
-ghost use Rattle.mine_rules.specs.Falls.{LentCell, LentCells, Reached, openSpot, Quietly, Does, Falls};
+ghost use Rattle.mine_fall.specs.Falls.{LentCell, LentCells, Reached, openSpot, Quietly, Does, Falls};
 
 // What an object did, beside moving.
 pub enum Fell {

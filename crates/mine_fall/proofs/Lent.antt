@@ -14,8 +14,8 @@ use Rattle.mine_state.specs.State.{W, H, EMPTY, place, codeIn, codeAt, emptyAt,
 use Rattle.mine_state.specs.Spots.{firstSpot, freeSpot, Stand}
 use Rattle.mine_state.proofs.Cells.{empty-inside}
 use Rattle.mine_state.proofs.Places.{free-spot, player-spot, first-spot}
 use Rattle.mine_rules.specs.Gravity.{isObject, rested, openSide, overOther, cellFall}
-use Rattle.mine_rules.specs.Falls.{Quietly, openSpot, lent}
+use Rattle.mine_fall.specs.Falls.{Quietly, openSpot, lent}
 
 below-but : (j x : ℕ) → j < x + 1 → (j ≡ x → ⊥) → j < x
 below-but j x h a = omega arith
