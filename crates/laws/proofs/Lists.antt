@@ -155,11 +155,6 @@ module _ {A : Type 0} (f : A → Bool) where
   all-append [] t = refl
   all-append (x ∷ s) t = rw (all-append s t) (sym (and-assoc (f x) (all f s) (all f t)))
 
-  -- what tells g of each element
-  pub all-weaker : (g : A → Bool) → ((x : A) → f x ≡ true → g x ≡ true) → (l : List A) → all f l ≡ true → all g l ≡ true
-  all-weaker g h [] e = refl
-  all-weaker g h (x ∷ l) e = and-both (g x) (all g l) (h x (and-left (f x) (all f l) e)) (all-weaker g h l (and-right (f x) (all f l) e))
-
   pub any-append : (s t : List A) → any f (s ++ t) ≡ (any f s || any f t)
   any-append [] t = refl
   any-append (x ∷ s) t = rw (any-append s t) (sym (or-assoc (f x) (any f s) (any f t)))

@@ -1,5 +1,5 @@
 -- `cutter_picture::cutter_render` meets its contract. Assumes nothing.
-use Rattle.laws.proofs.Lists.{all-weaker}
+use Rattle.laws.proofs.Lists.{all-weaken}
 use Rattle.frame.proofs.Draw.{framed-pack}
 use Rattle.cutter_state.specs.State.{creatures}
 use Rattle.cutter_state.specs.WellFormed.{moverOk}
@@ -21,7 +21,7 @@ draw-enemies-requires c κs =
     record {
       framed = rw (c .before .before .before .before .draw-ground .ensures) (framed-pack _);
       few = w .few;
-      each = all-weaker (moverOk (start .args .t1 .grid)) onPanel (holds-panel (start .args .t1 .grid)) (creatures (start .args .t1)) (w .each);
+      each = all-weaken (moverOk (start .args .t1 .grid)) onPanel (holds-panel (start .args .t1 .grid)) (creatures (start .args .t1)) (w .each);
     }
 
 draw-player-requires : tie.Need-draw-player-requires
