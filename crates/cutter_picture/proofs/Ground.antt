@@ -1,12 +1,11 @@
 -- The ground as page bytes: four cells to a byte, and two bytes alike. Assumes nothing.
 use mathlib.Core.Path.{_≡_, ap, ap₂, _∙_}
 use mathlib.Core.Bool.{Bool}
-use mathlib.Core.List.{List, _++_}
-use Prim.Native.Nat.{ℕ, _+_, _*_, _/_, _%_, _^_, _<_}
+use mathlib.Core.List.{List}
+use Prim.Native.Nat.{ℕ, _+_, _*_, _%_, _^_, _<_}
 use native.Mathlib.Omega.{arith}
 use lib.Bits.{bitOr}
-use lib.ListN.{length, getD, set, drop}
-use Rattle.laws.specs.Lists.{table}
+use lib.ListN.{length, getD, set}
 use Rattle.laws.proofs.Lists.{getD-default}
 use Rattle.laws.proofs.Table.{table-more}
 use Rattle.bits.specs.Bits.{number}
@@ -15,7 +14,7 @@ use Rattle.frame.specs.Frame.{pageByte}
 use Rattle.ground.specs.Cells.{cellAt}
 use Rattle.cutter_state.specs.State.{place}
 use Rattle.cutter_picture.specs.Picture.{isInk, groundLit}
-use Rattle.cutter_picture.specs.Draw.{cellsLit}
+use Rattle.cutter_picture.specs.Draw.{cellsLit, grounded}
 
 -- two bits, and two more, and two more, and two more
 pairs : (f : ℕ → Bool) → bitOr (bitOr (bitOr (number 2 f) (number 2 (λ k. f (2 + k)) * 2 ^ 2 % 256)) (number 2 (λ k. f (4 + k)) * 2 ^ 4 % 256)) (number 2 (λ k. f (6 + k)) * 2 ^ 6 % 256) ≡ number 8 f
@@ -39,20 +38,19 @@ module _ (g : List ℕ) (p cx : ℕ) (cells : length g ≡ 2048) (hp : p < 8) (h
       (pairs (cellsLit g p cx))
 
 -- the two bytes of four cells
-module _ (g : List ℕ) (k : ℕ) where
-  pub left-byte : number 8 (cellsLit g (k / 64) (k % 64)) ≡ pageByte (groundLit g) (2 * k)
+module _ (g : List ℕ) (p cx i : ℕ) (hx : cx < 64) (at : i ≡ p * 128 + 2 * cx) where
+  left-byte : number 8 (cellsLit g p cx) ≡ pageByte (groundLit g) i
   left-byte = number-ext 8 _ _ (λ j h. ap₂ (λ (x y : ℕ). isInk (cellAt g (place x y))) (omega arith) (omega arith))
 
-  pub right-byte : number 8 (cellsLit g (k / 64) (k % 64)) ≡ pageByte (groundLit g) (2 * k + 1)
+  right-byte : number 8 (cellsLit g p cx) ≡ pageByte (groundLit g) (i + 1)
   right-byte = number-ext 8 _ _ (λ j h. ap₂ (λ (x y : ℕ). isInk (cellAt g (place x y))) (omega arith) (omega arith))
 
-  pub both-bytes : (old : List ℕ) (b : ℕ) → 2 * k + 1 < length old → b ≡ number 8 (cellsLit g (k / 64) (k % 64)) →
-      set (set (table (2 * k) (pageByte (groundLit g)) ++ drop (2 * k) old) (2 * k) b) (2 * k + 1) b
-      ≡ table (2 * (k + 1)) (pageByte (groundLit g)) ++ drop (2 * (k + 1)) old
-  both-bytes old b h e =
+  pub both-bytes : (old frame : List ℕ) (b : ℕ) → i + 1 < length old → b ≡ number 8 (cellsLit g p cx) → frame ≡ grounded g i old → set (set frame i b) (i + 1) b ≡ grounded g (p * 128 + 2 * (cx + 1)) old
+  both-bytes old frame b h e q =
       let f = pageByte (groundLit g) in
-      let n : 2 * k + 1 + 1 ≡ 2 * (k + 1) = omega arith in
-      ap₂ (λ (u v : ℕ). set (set (table (2 * k) f ++ drop (2 * k) old) (2 * k) u) (2 * k + 1) v) (e ∙ left-byte) (e ∙ right-byte)
-      ∙ ap (λ (l : List ℕ). set l (2 * k + 1) (f (2 * k + 1))) (table-more (2 * k) f old 0 (omega arith))
-      ∙ table-more (2 * k + 1) f old 0 h
-      ∙ ap (λ (i : ℕ). table i f ++ drop i old) n
+      let n : i + 1 + 1 ≡ p * 128 + 2 * (cx + 1) = omega arith in
+      rw q
+      (ap₂ (λ (u v : ℕ). set (set (grounded g i old) i u) (i + 1) v) (e ∙ left-byte) (e ∙ right-byte)
+      ∙ ap (λ (l : List ℕ). set l (i + 1) (f (i + 1))) (table-more i f old 0 (omega arith))
+      ∙ table-more (i + 1) f old 0 h
+      ∙ ap (λ (k : ℕ). grounded g k old) n)

@@ -1,18 +1,18 @@
 -- The picture's parts, as the code draws them one on the other.
 use mathlib.Core.Bool.{Bool, true, _&&_}
-use mathlib.Core.List.{List}
+use mathlib.Core.List.{List, _++_}
 use mathlib.Core.Path.{_≡_}
 use Prim.Native.Nat.{ℕ, _+_, _*_, _/_, _<_, _≤_}
 use lib.Dec.{eqb}
-use lib.ListN.{length, take}
-use Rattle.laws.specs.Lists.{all}
-use Rattle.frame.specs.Frame.{PAGES, PAGE-LEN, FRAME-LEN}
+use lib.ListN.{length, take, drop}
+use Rattle.laws.specs.Lists.{all, table}
+use Rattle.frame.specs.Frame.{PAGES, PAGE-LEN, FRAME-LEN, pageByte}
 use Rattle.frame.specs.Draw.{Framed}
 use Rattle.ground.specs.Cells.{CW, CH, CN, MAX-ENEMIES, cellAt}
 use Rattle.ground.specs.declared.Mover.{Mover}
 use Rattle.cutter_state.specs.State.{place, onGrid}
 use Rattle.cutter_state.specs.WellFormed.{MAX-LIVES}
-use Rattle.cutter_picture.specs.Picture.{isInk}
+use Rattle.cutter_picture.specs.Picture.{isInk, groundLit}
 
 -- the four cells of column cx in page p, two rows of pixels each
 abbrev pub cellsLit : List ℕ → ℕ → ℕ → ℕ → Bool
@@ -32,6 +32,20 @@ pub record Four (g : List ℕ) (p cx : ℕ) : Type 0 where
 pub record Lent (frame g : List ℕ) : Type 0 where
   pub cells : length g ≡ CN
   pub whole : length frame ≡ FRAME-LEN
+
+-- and a page of it
+pub record Paged (frame g : List ℕ) (p : ℕ) : Type 0 where
+  pub lent : Lent frame g
+  pub down : p < PAGES
+
+-- the first n bytes of a frame are the ground's
+abbrev pub grounded : List ℕ → ℕ → List ℕ → List ℕ
+grounded g n old = table n (pageByte (groundLit g)) ++ drop n old
+
+-- page p is drawn, where those before it are
+pub record NextPage (g : List ℕ) (p : ℕ) (before after : List ℕ) : Type 0 where
+  pub whole : length after ≡ FRAME-LEN
+  pub next : (old : List ℕ) → length old ≡ FRAME-LEN → before ≡ grounded g (p * PAGE-LEN) old → after ≡ grounded g ((p + 1) * PAGE-LEN) old
 
 -- a pixel of the panel
 pub record Spot (frame : List ℕ) (x y : ℕ) : Type 0 where

@@ -7,10 +7,11 @@ ghost use Rattle.bits.specs.Bits.{number};
 ghost use Rattle.frame.specs.Frame.{pack, pixel};
 ghost use Rattle.frame.specs.Draw.{inked, inverted, papered};
 ghost use Rattle.cutter_picture.specs.Picture.{Drawable, cellLit, cutLit, dotLit, groundLit, isInk, moverLit, noLife};
-ghost use Rattle.cutter_picture.specs.Draw.{Alive, Cell, Column, Four, Lent, Peopled, Spot, cellsLit, columnLit};
+ghost use Rattle.cutter_picture.specs.Draw.{Alive, Cell, Column, Four, Lent, NextPage, Paged, Peopled, Spot, cellsLit, columnLit};
 use bits::TILE;
 use cutter_state::Cutter;
 use frame::PAGE_LEN;
+use frame::PAGES;
 use ground::CB_FILLED;
 use ground::CB_TRAIL;
 use ground::CN;
@@ -43,17 +44,29 @@ fn ground_byte(grid: &[u8; CN], p: usize, cx: usize) -> u8
         | cell_bits(grid[at + 3 * CW]) << 6
 }
 
-// The ground: both columns of pixels of four cells hold the same byte.
+// The ground of page p: both columns of pixels of four cells hold the same byte.
+fn ground_page(frame: &mut [u8], grid: &[u8; CN], p: usize)
+    requires { ⌜ Paged (now frame) (now grid) p ⌝ }
+    ensures { λ _. ⌜ NextPage (now (grid .entry)) p (now (frame .entry)) (now (frame .exit)) ⌝ }
+{
+    let mut cx: usize = 0;
+    while cx < CW {
+        let b = ground_byte(grid, p, cx);
+        let at = p * PAGE_LEN + 2 * cx;
+        frame[at] = b;
+        frame[at + 1] = b;
+        cx += 1;
+    }
+}
+
 fn draw_ground(frame: &mut [u8], grid: &[u8; CN])
     requires { ⌜ Lent (now frame) (now grid) ⌝ }
     ensures { λ _. ⌜ now (frame .exit) ≡ pack (groundLit (now (grid .entry))) ⌝ }
 {
-    let mut k: usize = 0;
-    while k < CN / ROWS {
-        let b = ground_byte(grid, k / CW, k % CW);
-        frame[2 * k] = b;
-        frame[2 * k + 1] = b;
-        k += 1;
+    let mut p: usize = 0;
+    while p < PAGES {
+        ground_page(frame, grid, p);
+        p += 1;
     }
 }
 
