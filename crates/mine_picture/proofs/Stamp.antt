@@ -1,6 +1,6 @@
 -- A tile's page bytes in the window: which pixels they light. Assumes nothing.
 use mathlib.Core.Path.{_≡_, refl, sym, ap, _∙_}
-use mathlib.Core.Bool.{Bool, false, _||_, _&&_, and-true, and-false, or-false}
+use mathlib.Core.Bool.{Bool, true, false, cond, _||_, _&&_, and-true, and-false, or-false}
 use mathlib.Core.List.{List}
 use mathlib.Core.Logic.{_⊎_, inl, inr}
 use Prim.Native.Nat.{ℕ, _+_, _-_, _*_, _/_, _%_, _≤_, _<_}
@@ -17,10 +17,12 @@ use Rattle.frame.specs.Frame.{pack, pageByte, pixel}
 use Rattle.frame.specs.Draw.{Framed, inked}
 use Rattle.frame.proofs.Pack.{pack-ext}
 use Rattle.frame.proofs.Draw.{draw-packed, parts, parts-more}
-use Rattle.mine_picture.specs.Art.{artOf}
+use Rattle.mine_picture.specs.Art.{DIRT-PAT, WALL-PAT, BOULDER-PAT, COIN-PAT, EMPTY-PAT, exitArt, artOf}
+use Rattle.mine_picture.specs.declared.Tiles.{Tiles}
+use Rattle.laws.specs.Lists.{table}
 use Rattle.mine_picture.specs.Picture.{window}
-use Rattle.mine_picture.specs.Draw.{columnsOf, stampLit, tileLit, spriteLit}
-use Rattle.mine_state.specs.State.{codeIn}
+use Rattle.mine_picture.specs.Draw.{columnsIn, columnsOf, tilesOf, stampLit, tileLit, spriteLit}
+use Rattle.mine_state.specs.State.{DIRT, WALL, BOULDER, COIN, EXIT, codeIn}
 
 -- a stamp lights nothing outside its tile
 module _ (col row x y : ℕ) where
@@ -40,6 +42,23 @@ module _ (col row x y : ℕ) where
 
 pub columns-bytes : (cols pat : List ℕ) → cols ≡ columnsOf pat → (gx : ℕ) → gx < 8 → getD cols gx 0 < 256
 columns-bytes cols pat e gx h = rw (e, getD-table 8 (λ i. number 8 (artBit pat i)) gx 0 h) (number-lt 8 (artBit pat gx))
+
+-- the columns that a code picks are those of its art
+picked : (d w b c x o : Bool) →
+    cond d (tilesOf o .dirt) (cond w (tilesOf o .wall) (cond b (tilesOf o .boulder) (cond c (tilesOf o .coin) (cond x (tilesOf o .exit) EMPTY-PAT))))
+    ≡ columnsOf (cond d DIRT-PAT (cond w WALL-PAT (cond b BOULDER-PAT (cond c COIN-PAT (cond x (exitArt o) EMPTY-PAT)))))
+unfolding table number
+picked true w b c x o = refl
+picked false true b c x o = refl
+picked false false true c x o = refl
+picked false false false true x o = refl
+picked false false false false true o = refl
+picked false false false false false o = refl
+
+pub tile-columns-of : (cols : List ℕ) (t : Tiles) (code : ℕ) (o : Bool) → t ≡ tilesOf o → cols ≡ columnsIn t code → cols ≡ columnsOf (artOf code o)
+unfolding columnsIn artOf
+tile-columns-of cols t code o e h =
+    (rw e at h) ∙ picked (eqb code DIRT) (eqb code WALL) (eqb code BOULDER) (eqb code COIN) (eqb code EXIT) o
 
 -- column gx of a stamp is one byte of the frame
 module _ (col row gx : ℕ) (cols : List ℕ) (hc : col < 16) (hr : row < 7) (hg : gx < 8) where

@@ -32,6 +32,10 @@ ENEMY-PAT = 0x81 ∷ 0x5A ∷ 0x3C ∷ 0x7E ∷ 0x7E ∷ 0x3C ∷ 0x5A ∷ 0x81 
 abbrev pub EMPTY-PAT : List ℕ
 EMPTY-PAT = 0 ∷ 0 ∷ 0 ∷ 0 ∷ 0 ∷ 0 ∷ 0 ∷ 0 ∷ []
 
+-- the open exit or the shut one
+abbrev pub exitArt : Bool → List ℕ
+exitArt isOpen = cond isOpen EXIT-OPEN-PAT EXIT-PAT
+
 -- the art of a cell's code
 unfoldable pub artOf : ℕ → Bool → List ℕ
 artOf code isOpen =
@@ -39,4 +43,4 @@ artOf code isOpen =
     (cond (eqb code WALL) WALL-PAT
     (cond (eqb code BOULDER) BOULDER-PAT
     (cond (eqb code COIN) COIN-PAT
-    (cond (eqb code EXIT) (cond isOpen EXIT-OPEN-PAT EXIT-PAT) EMPTY-PAT))))
+    (cond (eqb code EXIT) (exitArt isOpen) EMPTY-PAT))))

@@ -1,5 +1,5 @@
 -- The picture's parts, as the code draws them one on the other.
-use mathlib.Core.Bool.{Bool, _&&_}
+use mathlib.Core.Bool.{Bool, cond, _&&_}
 use mathlib.Core.List.{List}
 use mathlib.Core.Path.{_≡_}
 use Prim.Native.Nat.{ℕ, _+_, _/_, _%_, _<_, _≤_}
@@ -9,13 +9,33 @@ use Rattle.laws.specs.Lists.{any, table}
 use Rattle.bits.specs.Bits.{number, bitAt, artBit}
 use Rattle.frame.specs.Draw.{Framed}
 use Rattle.mine_state.specs.declared.Enemy.{Enemy}
-use Rattle.mine_state.specs.State.{W, H, AREA, MAX-ENEMIES, codeIn, standsAt}
-use Rattle.mine_picture.specs.Art.{artOf, ENEMY-PAT}
+use Rattle.mine_state.specs.State.{W, H, AREA, MAX-ENEMIES, DIRT, WALL, BOULDER, COIN, EXIT, codeIn, standsAt}
+use Rattle.mine_picture.specs.Art.{DIRT-PAT, WALL-PAT, BOULDER-PAT, COIN-PAT, EMPTY-PAT, ENEMY-PAT, exitArt, artOf}
+use Rattle.mine_picture.specs.declared.Tiles.{Tiles}
 use Rattle.mine_picture.specs.Picture.{TILE, VIEW-W, VIEW-H}
 
 -- the columns of a tile as page bytes
 abbrev pub columnsOf : List ℕ → List ℕ
 columnsOf pat = table TILE (λ gx. number TILE (artBit pat gx))
+
+-- the tiles' columns, and those of a cell's code: nothing is its own columns
+abbrev pub tilesOf : Bool → Tiles
+tilesOf isOpen =
+    record {
+      dirt = columnsOf DIRT-PAT;
+      wall = columnsOf WALL-PAT;
+      boulder = columnsOf BOULDER-PAT;
+      coin = columnsOf COIN-PAT;
+      exit = columnsOf (exitArt isOpen);
+    }
+
+unfoldable pub columnsIn : Tiles → ℕ → List ℕ
+columnsIn t code =
+    cond (eqb code DIRT) (t .dirt)
+    (cond (eqb code WALL) (t .wall)
+    (cond (eqb code BOULDER) (t .boulder)
+    (cond (eqb code COIN) (t .coin)
+    (cond (eqb code EXIT) (t .exit) EMPTY-PAT))))
 
 -- the page bytes of a tile, put in column `col` and row `row` of the window
 abbrev pub stampLit : ℕ → ℕ → List ℕ → ℕ → ℕ → Bool

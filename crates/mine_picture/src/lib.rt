@@ -3,9 +3,9 @@ ghost use mathlib.Core.Path.{_≡_};
 ghost use lib.ListN.{length, take};
 ghost use Rattle.frame.specs.Frame.{FRAME-LEN, pack};
 ghost use Rattle.frame.specs.Draw.{blank, inked};
-ghost use Rattle.mine_picture.specs.Art.{artOf};
+ghost use Rattle.mine_picture.specs.Art.{exitArt};
 ghost use Rattle.mine_picture.specs.Picture.{Drawable, cameraOf, mineLit, window};
-ghost use Rattle.mine_picture.specs.Draw.{Inside, Peopled, Placed, Tiled, columnsOf, enemiesLit, spriteLit, stampLit, tileLit};
+ghost use Rattle.mine_picture.specs.Draw.{Inside, Peopled, Placed, Tiled, columnsIn, columnsOf, enemiesLit, spriteLit, stampLit, tileLit, tilesOf};
 use bits::TILE;
 use frame::FRAME_LEN;
 use frame::PAGE_LEN;
@@ -75,23 +75,47 @@ fn columns(pat: [u8; 8]) -> [u8; 8]
     out
 }
 
-// The columns of a cell's tile. Each art is turned in its own arm, so that the compiler can do it.
-fn tile_columns(code: u8, is_open: bool) -> [u8; 8]
-    ensures { λ r. ⌜ r ≡ columnsOf (artOf code «is_open») ⌝ }
+// The columns of each tile, turned once a frame.
+struct Tiles {
+    dirt: [u8; 8],
+    wall: [u8; 8],
+    boulder: [u8; 8],
+    coin: [u8; 8],
+    exit: [u8; 8],
+}
+
+fn exit_columns(is_open: bool) -> [u8; 8]
+    ensures { λ r. ⌜ r ≡ columnsOf (exitArt «is_open») ⌝ }
+{
+    if is_open {
+        return columns(EXIT_OPEN_PAT);
+    }
+    columns(EXIT_PAT)
+}
+
+fn all_tiles(is_open: bool) -> Tiles
+    ensures { λ r. ⌜ r ≡ tilesOf «is_open» ⌝ }
+{
+    Tiles {
+        dirt: columns(DIRT_PAT),
+        wall: columns(WALL_PAT),
+        boulder: columns(BOULDER_PAT),
+        coin: columns(COIN_PAT),
+        exit: exit_columns(is_open),
+    }
+}
+
+// The columns of a cell's tile.
+fn tile_columns(t: Tiles, code: u8) -> [u8; 8]
+    ensures { λ r. ⌜ r ≡ columnsIn t code ⌝ }
 {
     match code {
-        DIRT => columns(DIRT_PAT),
-        WALL => columns(WALL_PAT),
-        BOULDER => columns(BOULDER_PAT),
-        COIN => columns(COIN_PAT),
-        EXIT => {
-            if is_open {
-                columns(EXIT_OPEN_PAT)
-            } else {
-                columns(EXIT_PAT)
-            }
-        }
-        _ => columns(EMPTY_PAT),
+        DIRT => t.dirt,
+        WALL => t.wall,
+        BOULDER => t.boulder,
+        COIN => t.coin,
+        EXIT => t.exit,
+        _ => EMPTY_PAT,
     }
 }
 
@@ -125,12 +149,13 @@ fn draw_tiles(frame: &mut [u8], grid: &[u8; AREA], is_open: bool, cam_x: usize, 
     requires { ⌜ Tiled (now frame) (now grid) «cam_x» «cam_y» ⌝ }
     ensures { λ _. ⌜ now (frame .exit) ≡ inked (now (frame .entry)) (window «cam_x» «cam_y» (tileLit (now (grid .entry)) «is_open»)) ⌝ }
 {
+    let t = all_tiles(is_open);
     let mut k: usize = 0;
     while k < VIEW_W * VIEW_H {
         let col = k % VIEW_W;
         let row = k / VIEW_W;
         let code = mine_state::at(grid, cam_x + col, cam_y + row);
-        blit(frame, col, row, tile_columns(code, is_open));
+        blit(frame, col, row, tile_columns(t, code));
         k += 1;
     }
 }

@@ -8,21 +8,24 @@ use Rattle.frame.proofs.Draw.{length-pack, length-framed, framed-pack, parts, p
 use Rattle.mine_picture.specs.Art.{artOf}
 use Rattle.mine_picture.specs.Picture.{window}
 use Rattle.mine_picture.specs.Draw.{columnsOf, tileLit}
-use Rattle.mine_picture.proofs.Stamp.{tileNo, columns-bytes}
+use Rattle.mine_picture.proofs.Stamp.{tileNo, columns-bytes, tile-columns-of}
 use Rattle.mine_picture.proofs.Layers.{tile-more}
 use Rattle.mine_picture.proofs.draw_tiles.Statement.{statement}
 use Rattle.mine_picture.proofs.draw_tiles.Tie as tie
 
 abbrev Inv-loop : tie.InvT-loop
-Inv-loop frame₀ grid is-open cam-x cam-y k₀ frame k = (k ≤ 112) × (frame ≡ pack (parts (pixel frame₀) (window cam-x cam-y (tileLit grid is-open)) tileNo k))
+Inv-loop frame₀ grid is-open cam-x cam-y t k₀ frame k = (k ≤ 112) × (frame ≡ pack (parts (pixel frame₀) (window cam-x cam-y (tileLit grid is-open)) tileNo k))
 
 abbrev μ-loop : tie.MeasureT-loop
-μ-loop frame₀ grid is-open cam-x cam-y k₀ frame k = 112 - k
+μ-loop frame₀ grid is-open cam-x cam-y t k₀ frame k = 112 - k
+
+all-tiles-requires : tie.Need-all-tiles-requires Inv-loop μ-loop
+all-tiles-requires c κs = tt
 
 loop-holds : tie.Need-loop-holds Inv-loop μ-loop
 loop-holds c =
-    let a = c .before .args in
-    (omega arith, c .before .pre .placed .framed ∙ parts-none (pixel (now (a .frame))) (window (a .cam-x) (a .cam-y) (tileLit (now (a .grid)) (a .is-open))) tileNo)
+    let a = c .before .before .args in
+    (omega arith, c .before .before .pre .placed .framed ∙ parts-none (pixel (now (a .frame))) (window (a .cam-x) (a .cam-y) (tileLit (now (a .grid)) (a .is-open))) tileNo)
 
 mul-loop : tie.Need-mul-loop Inv-loop μ-loop
 mul-loop c = omega arith
@@ -34,7 +37,7 @@ add-at-2 : tie.Need-add-at-2 Inv-loop μ-loop
 add-at-2 c = omega arith
 
 at-requires : tie.Need-at-requires Inv-loop μ-loop
-at-requires c κs = record { cells = c .before .before .before .pre .cells; across = omega arith; down = omega arith }
+at-requires c κs = record { cells = c .before .before .before .before .pre .cells; across = omega arith; down = omega arith }
 
 tile-columns-requires : tie.Need-tile-columns-requires Inv-loop μ-loop
 tile-columns-requires c κs = tt
@@ -43,7 +46,7 @@ blit-requires : tie.Need-blit-requires Inv-loop μ-loop
 blit-requires c κs =
     record {
       framed = rw (c .before .before .before .before .loop .inv .1) (framed-pack _);
-      bytes = columns-bytes _ (artOf (c .before .before .at .result) (c .before .before .before .before .before .before .args .is-open)) (c .tile-columns .ensures);
+      bytes = columns-bytes _ (artOf (c .before .before .at .result) (c .before .before .before .before .before .before .before .args .is-open)) (tile-columns-of _ _ _ _ (c .before .before .before .before .before .all-tiles .ensures) (c .tile-columns .ensures));
       across = omega arith;
       down = omega arith;
     }
@@ -56,20 +59,20 @@ loop-less c = omega arith
 
 loop-again : tie.Need-loop-again Inv-loop μ-loop
 loop-again c =
-    let a = c .before .before .before .before .before .before .before .before .before .args in
+    let a = c .before .before .before .before .before .before .before .before .before .before .args in
     let l = c .before .before .before .before .before .before .before .loop in (
       omega arith,
       c .before .before .blit .ensures
           ∙ tile-more (pixel (now (a .frame))) (a .cam-x) (a .cam-y) (l .k) (now (a .grid)) (a .is-open) (l .frame) _ (l .inv .1)
-          (c .before .before .before .tile-columns .ensures ∙ ap (λ (t : ℕ). columnsOf (artOf t (a .is-open))) (c .before .before .before .before .before .at .ensures)),
+          (tile-columns-of _ _ _ _ (c .before .before .before .before .before .before .before .before .all-tiles .ensures) (c .before .before .before .tile-columns .ensures) ∙ ap (λ (t : ℕ). columnsOf (artOf t (a .is-open))) (c .before .before .before .before .before .at .ensures)),
     )
 
 same-length : tie.Need-same-length Inv-loop μ-loop
-same-length c = rw (c .before .loop .inv .1, length-pack) (sym (length-framed _ (c .before .before .before .pre .placed .framed)))
+same-length c = rw (c .before .loop .inv .1, length-pack) (sym (length-framed _ (c .before .before .before .before .pre .placed .framed)))
 
 returns : tie.Need-returns Inv-loop μ-loop
 returns c =
-    let a = c .before .before .before .args in
+    let a = c .before .before .before .before .args in
     let e : c .before .loop .k ≡ 112 = omega arith in
     c .before .loop .inv .1 ∙ rw e (parts-all (pixel (now (a .frame))) (window (a .cam-x) (a .cam-y) (tileLit (now (a .grid)) (a .is-open))) tileNo 112 (λ x y hx hy. omega arith))
 
@@ -79,6 +82,7 @@ draw-tiles-spec =
     (tie.spec
     Inv-loop
     μ-loop
+    all-tiles-requires
     loop-holds
     mul-loop
     add-at
