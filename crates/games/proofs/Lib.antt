@@ -1,2 +1,3 @@
 pub mod MineCalls
 pub mod MineAccounts
+pub mod Tight

@@ -1,0 +1,48 @@
+-- Each promise is one equation with a definition of the inputs, so it is met by one outcome only. Assumes nothing.
+use mathlib.Core.Path.{_≡_, sym, _∙_}
+use lib.ListN.{take}
+use Rattle.pace.specs.Pace.{started, dueAt, ticked}
+use Rattle.frame.specs.Frame.{pageOf}
+use Rattle.mine_rules.specs.Load.{loaded}
+use Rattle.mine_pass.specs.Pass.{passAt}
+use Rattle.mine.specs.Calls.{moveCall, gravityCall, tickCall}
+use Rattle.mine.specs.Turn.{passOf}
+use Rattle.mine.specs.Picture.{pictureOf}
+use Rattle.mine.specs.Question.{whoAt}
+use Rattle.cutter.specs.Question as Cutter
+use Rattle.games.specs.Tight.{Determined, MineTight, CutterTight, Tight}
+
+determined : {A : Type 0} (promised : A) → Determined promised
+determined promised a b ea eb = ea ∙ sym eb
+
+mine-tight : MineTight
+mine-tight =
+    record {
+      load = determined loaded;
+      step-player = λ m dir. determined (moveCall m dir);
+      gravity = λ m. determined (gravityCall m);
+      move-enemies = λ m. determined (tickCall m);
+      pass = λ m keys time pace. determined (passOf m keys time pace);
+      pass-marks = λ m keys time first second. determined (passAt m keys time first second);
+      render = λ m frame. determined (pictureOf m frame);
+      who = λ list x y. determined (whoAt list x y);
+      who-of = λ enemies n x y. determined (whoAt (take n enemies) x y);
+    }
+
+cutter-tight : CutterTight
+cutter-tight =
+    record {
+      who = λ list x y. determined (Cutter.whoAt list x y);
+      who-of = λ enemies n x y. determined (Cutter.whoAt (take n enemies) x y);
+    }
+
+pub tight : Tight
+tight =
+    record {
+      mine = mine-tight;
+      cutter = cutter-tight;
+      start = λ time. determined (started time);
+      due = λ time mark interval. determined (dueAt time mark interval);
+      both-ticks = λ time first second interval interval2. determined (ticked time first second interval interval2);
+      page = λ frame p. determined (pageOf frame p);
+    }
