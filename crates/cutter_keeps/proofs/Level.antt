@@ -40,7 +40,7 @@ module _ (r : List ℕ) (l : length r ≡ CW) where
 between-black : (x : ℕ) → x < CW - 2 → cellAt between (1 + x) ≡ CB-BLACK
 between-black = same-below (CW - 2) (λ x. cellAt between (1 + x)) (λ _. CB-BLACK) refl
 
-inner-black : (x y : ℕ) → x < CW - 2 → y < CH - 2 → cellAt freshGrid (place (1 + x) (1 + y)) ≡ CB-BLACK
+pub inner-black : (x y : ℕ) → x < CW - 2 → y < CH - 2 → cellAt freshGrid (place (1 + x) (1 + y)) ≡ CB-BLACK
 unfolding freshGrid
 inner-black x y h k =
     let q : place (1 + x) (1 + y) ≡ length edge + place (1 + x) y = omega arith in
@@ -72,18 +72,18 @@ all-table f (suc n) p h = all-append f (table n p) (p n ∷ []) ∙ and-both (al
 -- ---- the level
 
 -- what its grid is, each part by computing it
-record Ground (g : List ℕ) : Type 0 where
-  cells : length g ≡ CN
-  codes : all isCode g ≡ true
-  rows : rowsFilled g ≡ true
-  columns : columnsFilled g ≡ true
-  unlined : any isTrail g ≡ false
-  start : holdsAt g CB-FILLED (CW / 2) 0 ≡ true
-  black : tally CB-BLACK g ≡ INNER
-  claimed : tally CB-FILLED g ≡ RING
-  line : tally CB-TRAIL g ≡ 0
+pub record Ground (g : List ℕ) : Type 0 where
+  pub cells : length g ≡ CN
+  pub codes : all isCode g ≡ true
+  pub rows : rowsFilled g ≡ true
+  pub columns : columnsFilled g ≡ true
+  pub unlined : any isTrail g ≡ false
+  pub start : holdsAt g CB-FILLED (CW / 2) 0 ≡ true
+  pub black : tally CB-BLACK g ≡ INNER
+  pub claimed : tally CB-FILLED g ≡ RING
+  pub line : tally CB-TRAIL g ≡ 0
 
-ground : Ground freshGrid
+pub ground : Ground freshGrid
 unfolding freshGrid rowsFilled columnsFilled holdsAt tally
 ground = record { cells = refl; codes = refl; rows = refl; columns = refl; unlined = refl; start = refl; black = refl; claimed = refl; line = refl }
 

@@ -4,6 +4,7 @@ pub mod Border
 pub mod Direction
 pub mod Tick
 pub mod Level
+pub mod Inner
 pub mod Laying
 pub mod Respawn
 pub mod Closing
