@@ -1,5 +1,15 @@
 // Block Cutter: the public calls.
+mod calls;
 mod question;
 
+pub use calls::CutterAnswer;
+pub use calls::Ground;
+pub use calls::direction;
+pub use calls::ground_report;
+pub use calls::new_level;
+pub use calls::new_round;
+pub use calls::respawn;
+pub use calls::step_enemies;
+pub use calls::step_player;
 pub use question::who;
 pub use question::who_of;

@@ -1,0 +1,56 @@
+-- `cutter::ground_report` meets its contract. Assumes nothing.
+use mathlib.Core.Path.{_≡_, sym, _∙_, subst}
+use Prim.Native.Nat.{ℕ, _≤_}
+use borrow.Author.Needs.{needs}
+use Rattle.cutter_keeps.specs.Kept.{INNER}
+use Rattle.cutter_keeps.proofs.Inner.{black-most}
+use Rattle.cutter.specs.Calls.{unreported, reported, reportCall}
+use Rattle.cutter.proofs.Accepted.{accepted, turned-away, let-in}
+use Rattle.cutter.proofs.calls.ground_report.Statement.{statement}
+use Rattle.cutter.proofs.calls.ground_report.Tie as tie
+
+check-requires : tie.Need-check-requires
+check-requires c κs = search needs
+
+returns : tie.Need-returns
+unfolding reportCall
+returns c = let s = c .before .before .args .t1 in turned-away s (c .before .check .ensures) unreported (reported s) (c .if1 .taken)
+
+black-count-requires : tie.Need-black-count-requires
+black-count-requires c κs = search needs
+
+count-of-requires : tie.Need-count-of-requires
+count-of-requires c κs = search needs
+
+count-of-requires-2 : tie.Need-count-of-requires-2
+count-of-requires-2 c κs = search needs
+
+share-of-requires : tie.Need-share-of-requires
+share-of-requires c κs =
+    let b = c .before .before .before .before .before .before in
+    let k = b .before .before .before .before in
+    let s = k .before .args .t1 in
+    subst (λ (n : ℕ). n ≤ INNER) (sym (b .«black-count» .ensures)) (black-most s (accepted s (k .check .ensures) (b .before .before .before .if1 .left)))
+
+returns-2 : tie.Need-returns-2
+unfolding reportCall
+returns-2 c =
+    let n = c .before .before .before .before in
+    let b = n .before .before .before in
+    let k = b .before .before .before .before in
+    let s = k .before .args .t1 in
+    let-in s (k .check .ensures) unreported (reported s)
+    (rw (c .«share-of» .ensures, c .before .«count-of2» .ensures, n .«count-of» .ensures, b .«black-count» .ensures))
+    (b .before .before .before .if1 .left)
+
+pub ground-report-spec : {M : Type 1} → statement M
+ground-report-spec =
+    tie.close
+    (tie.spec
+    check-requires
+    returns
+    black-count-requires
+    count-of-requires
+    count-of-requires-2
+    share-of-requires
+    returns-2)

@@ -1,0 +1,95 @@
+-- The promises of Block Cutter's calls: refused by a number and the state as it came, or answered.
+use mathlib.Core.Bool.{false}
+use mathlib.Core.List.{List, []}
+use Prim.Native.Nat.{ℕ, _-_, _*_, _/_}
+use lib.Dec.{leb}
+use lib.IntN.{pos}
+use lib.ListN.{replicate}
+use Rattle.refusal.specs.Refusal.{NONE, COMMAND, DRAWS, unless, _then_, refusedOr}
+use Rattle.ground.specs.Cells.{CN, CB-BLACK}
+use Rattle.closing.specs.Closing.{slots}
+use Rattle.cutter_state.specs.declared.Cutter.{Cutter}
+use Rattle.cutter_state.specs.Change.{withLevel, withLives}
+use Rattle.cutter_state.specs.WellFormed.{MAX-LIVES, refusalOf}
+use Rattle.cutter_rules.specs.Level.{creaturesOf, drawsOk, freshLevel}
+use Rattle.cutter_rules.specs.Step.{LEFT, directed, stepped, respawned}
+use Rattle.cutter_rules.specs.Tick.{enemiesStepped}
+use Rattle.cutter_keeps.specs.Kept.{INNER, blackIn, claimedIn, lineIn}
+use Rattle.cutter.specs.declared.calls.CutterAnswer.{CutterAnswer}
+use Rattle.cutter.specs.declared.calls.Ground.{Ground}
+
+-- a refused call returns the number and the state it got
+abbrev pub refused : Cutter → ℕ → CutterAnswer
+refused c n = record { refusal = n; game = c }
+
+-- one that is not returns no number and the state after
+abbrev pub answered : Cutter → CutterAnswer
+answered c = record { refusal = NONE; game = c }
+
+-- a call that gets no state gives zeros and false flags in its place
+unfoldable pub zeros : Cutter
+zeros =
+    record {
+      grid = replicate CN CB-BLACK;
+      px = 0;
+      py = 0;
+      dx = pos 0;
+      dy = pos 0;
+      trailing = false;
+      enemies = slots [];
+      count = 0;
+      level = 0;
+      lives = 0;
+      dead = false;
+      «won_level» = false;
+    }
+
+-- ---- new round: level 1, 3 lives, 4 draws
+
+abbrev pub FIRST-LEVEL : ℕ
+FIRST-LEVEL = 1
+
+unfoldable pub roundCall : List ℕ → CutterAnswer
+roundCall draws =
+    refusedOr (unless (drawsOk draws (creaturesOf FIRST-LEVEL)) DRAWS) (refused zeros)
+    (answered (freshLevel (withLives (withLevel zeros FIRST-LEVEL) MAX-LIVES) draws))
+
+-- ---- on a state: after the state's own refusals
+
+-- fresh level for the state's own level: 7 for draws that are not its own
+unfoldable pub levelCall : Cutter → List ℕ → CutterAnswer
+levelCall c draws =
+    refusedOr (refusalOf c then unless (drawsOk draws (creaturesOf (c .level))) DRAWS) (refused c)
+    (answered (freshLevel c draws))
+
+-- direction: 5 for a direction command above 3
+unfoldable pub directionCall : Cutter → ℕ → CutterAnswer
+directionCall c dir = refusedOr (refusalOf c then unless (leb dir LEFT) COMMAND) (refused c) (answered (directed c dir))
+
+-- step
+unfoldable pub stepCall : Cutter → CutterAnswer
+stepCall c = refusedOr (refusalOf c) (refused c) (answered (stepped c))
+
+-- creature tick
+unfoldable pub enemiesCall : Cutter → CutterAnswer
+enemiesCall c = refusedOr (refusalOf c) (refused c) (answered (enemiesStepped c))
+
+-- respawn
+unfoldable pub respawnCall : Cutter → CutterAnswer
+respawnCall c = refusedOr (refusalOf c) (refused c) (answered (respawned c))
+
+-- ---- ground report: black, claimed and line cells, and the share
+
+-- (1860 - black)*100/1860, rounded down
+abbrev pub shareOf : ℕ → ℕ
+shareOf black = (INNER - black) * 100 / INNER
+
+-- zeros where refused
+abbrev pub unreported : ℕ → Ground
+unreported n = record { refusal = n; black = 0; claimed = 0; line = 0; share = 0 }
+
+abbrev pub reported : Cutter → Ground
+reported c = record { refusal = NONE; black = blackIn c; claimed = claimedIn c; line = lineIn c; share = shareOf (blackIn c) }
+
+unfoldable pub reportCall : Cutter → Ground
+reportCall c = refusedOr (refusalOf c) unreported (reported c)

@@ -1,0 +1,217 @@
+// The calls on a state: each checks it once, and refuses it or plays.
+use cutter_rules::LEFT;
+use cutter_rules::creatures_of;
+use cutter_rules::draws_ok;
+use cutter_state::Cutter;
+use cutter_state::MAX_LIVES;
+use cutter_state::check;
+use ground::CB_FILLED;
+use ground::CB_TRAIL;
+use ground::CH;
+use ground::CN;
+use ground::CW;
+use ground::MAX_ENEMIES;
+use ground::Mover;
+use ground::black_count;
+use ground::count_of;
+use refusal::Refusal;
+ghost use mathlib.Core.Path.{_≡_};
+ghost use Prim.Native.Nat.{_≤_};
+ghost use Rattle.cutter_keeps.specs.Kept.{INNER};
+ghost use Rattle.cutter.specs.Calls.{zeros, roundCall, levelCall, directionCall, stepCall, enemiesCall, respawnCall, shareOf, reportCall};
+
+#[repr(C)]
+pub struct CutterAnswer {
+    pub refusal: Refusal,
+    pub game: Cutter,
+}
+
+// How much of the ground is black, claimed and line, and the percentage of it that is no longer black.
+#[repr(C)]
+pub struct Ground {
+    pub refusal: Refusal,
+    pub black: u16,
+    pub claimed: u16,
+    pub line: u16,
+    pub share: u16,
+}
+
+// A round starts at this level.
+const FIRST_LEVEL: u32 = 1;
+
+// The cells inside the ring.
+const INTERIOR: usize = (CW - 2) * (CH - 2);
+
+fn no_state() -> Cutter
+    ensures { λ r. ⌜ r ≡ zeros ⌝ }
+{
+    let nobody = Mover {
+        x: 0,
+        y: 0,
+        vx: 0,
+        vy: 0,
+    };
+    Cutter {
+        grid: [0; CN],
+        px: 0,
+        py: 0,
+        dx: 0,
+        dy: 0,
+        trailing: false,
+        enemies: [nobody; MAX_ENEMIES],
+        count: 0,
+        level: 0,
+        lives: 0,
+        dead: false,
+        won_level: false,
+    }
+}
+
+// A new round: level 1, 3 lives, 4 draws.
+pub fn new_round(draws: &[u8]) -> CutterAnswer
+    ensures { λ r. ⌜ r ≡ roundCall (now (draws .entry)) ⌝ }
+{
+    let mut c = no_state();
+    if draws_ok(draws, creatures_of(FIRST_LEVEL)) {
+        c.level = FIRST_LEVEL;
+        c.lives = MAX_LIVES;
+        return CutterAnswer {
+            refusal: refusal::NONE,
+            game: cutter_rules::new_level(c, draws),
+        };
+    }
+    CutterAnswer {
+        refusal: refusal::DRAWS,
+        game: c,
+    }
+}
+
+// A fresh level for the state's own level.
+pub fn new_level(c: Cutter, draws: &[u8]) -> CutterAnswer
+    ensures { λ r. ⌜ r ≡ levelCall c (now (draws .entry)) ⌝ }
+{
+    let no = check(c);
+    if no != refusal::NONE {
+        return CutterAnswer {
+            refusal: no,
+            game: c,
+        };
+    }
+    if draws_ok(draws, creatures_of(c.level)) {
+        return CutterAnswer {
+            refusal: refusal::NONE,
+            game: cutter_rules::new_level(c, draws),
+        };
+    }
+    CutterAnswer {
+        refusal: refusal::DRAWS,
+        game: c,
+    }
+}
+
+// The direction: 0 up, 1 right, 2 down, 3 left.
+pub fn direction(c: Cutter, dir: u8) -> CutterAnswer
+    ensures { λ r. ⌜ r ≡ directionCall c dir ⌝ }
+{
+    let no = check(c);
+    if no != refusal::NONE {
+        return CutterAnswer {
+            refusal: no,
+            game: c,
+        };
+    }
+    if LEFT < dir {
+        return CutterAnswer {
+            refusal: refusal::COMMAND,
+            game: c,
+        };
+    }
+    CutterAnswer {
+        refusal: refusal::NONE,
+        game: cutter_rules::direction(c, dir),
+    }
+}
+
+// One step in the direction.
+pub fn step_player(c: Cutter) -> CutterAnswer
+    ensures { λ r. ⌜ r ≡ stepCall c ⌝ }
+{
+    let no = check(c);
+    if no != refusal::NONE {
+        return CutterAnswer {
+            refusal: no,
+            game: c,
+        };
+    }
+    CutterAnswer {
+        refusal: refusal::NONE,
+        game: cutter_rules::step_player(c),
+    }
+}
+
+// One creature tick.
+pub fn step_enemies(c: Cutter) -> CutterAnswer
+    ensures { λ r. ⌜ r ≡ enemiesCall c ⌝ }
+{
+    let no = check(c);
+    if no != refusal::NONE {
+        return CutterAnswer {
+            refusal: no,
+            game: c,
+        };
+    }
+    CutterAnswer {
+        refusal: refusal::NONE,
+        game: cutter_rules::step_enemies(c),
+    }
+}
+
+// The line is black again, and the player back at the start.
+pub fn respawn(c: Cutter) -> CutterAnswer
+    ensures { λ r. ⌜ r ≡ respawnCall c ⌝ }
+{
+    let no = check(c);
+    if no != refusal::NONE {
+        return CutterAnswer {
+            refusal: no,
+            game: c,
+        };
+    }
+    CutterAnswer {
+        refusal: refusal::NONE,
+        game: cutter_rules::respawn(c),
+    }
+}
+
+fn share_of(black: u16) -> u16
+    requires { ⌜ black ≤ INNER ⌝ }
+    ensures { λ r. ⌜ r ≡ shareOf black ⌝ }
+{
+    ((INTERIOR - black as usize) * 100 / INTERIOR) as u16
+}
+
+// The ground report.
+pub fn ground_report(c: Cutter) -> Ground
+    ensures { λ r. ⌜ r ≡ reportCall c ⌝ }
+{
+    let no = check(c);
+    if no != refusal::NONE {
+        return Ground {
+            refusal: no,
+            black: 0,
+            claimed: 0,
+            line: 0,
+            share: 0,
+        };
+    }
+    let black = black_count(&c.grid);
+    let claimed = count_of(&c.grid, CB_FILLED);
+    let line = count_of(&c.grid, CB_TRAIL);
+    Ground {
+        refusal: refusal::NONE,
+        black: black,
+        claimed: claimed,
+        line: line,
+        share: share_of(black),
+    }
+}
