@@ -1,3 +1,4 @@
 pub mod MineCalls
 pub mod MineAccounts
 pub mod Tight
+pub mod Cases

@@ -1,0 +1,50 @@
+-- Document 01's marked cases but P9 to P11, theorems about the games' definitions.
+use mathlib.Core.Bool.{true, false}
+use mathlib.Core.List.{[], _∷_}
+use mathlib.Core.Path.{_≡_}
+use lib.IntN.{pos, negsuc}
+use lib.ListN.{set}
+use Rattle.pace.specs.Pace.{dueAt}
+use Rattle.mine_state.specs.declared.Mine.{Mine}
+use Rattle.mine_rules.specs.Ways.{RIGHT}
+use Rattle.mine_rules.specs.Load.{loaded}
+use Rattle.mine_rules.specs.Move.{moved}
+use Rattle.mine_rules.specs.Tick.{ticked}
+use Rattle.mine_rules.specs.Cases.{P4, P5, P6, P7, P8}
+use Rattle.mine_rules.proofs.Start.{Start}
+use Rattle.ground.specs.Cells.{CB-FILLED}
+use Rattle.cutter_state.specs.declared.Cutter.{Cutter}
+use Rattle.cutter_state.specs.State.{place, creatures}
+use Rattle.cutter_state.specs.Change.{withGrid}
+use Rattle.cutter_rules.specs.Level.{freshGrid, freshLevel}
+use Rattle.cutter_rules.specs.Tick.{enemiesStepped}
+
+pub record MineCases : Type 0 where
+  -- load: the numbers of the level
+  pub p1 : Start
+  -- load, right three times: (4,1), 1 coin
+  pub p2 : let m : Mine = moved (moved (moved loaded RIGHT) RIGHT) RIGHT in (m .px ≡ 4) × (m .py ≡ 1) × (m .coins ≡ 1)
+  -- load, creature tick: no change
+  pub p3 : ticked loaded ≡ loaded
+  -- gravity on small mines, a marked coin walked into, and who is left of A, B, C
+  pub p4 : P4
+  pub p5 : P5
+  pub p6 : P6
+  pub p7 : P7
+  pub p8 : P8
+
+-- the draws of a fresh level give a creature's place less 1, then 0 for -1 and 1 for 1 as its velocity
+pub record CutterCases : Type 0 where
+  -- creature (62,10), velocity (1,1), fresh: (61,11), (-1,1)
+  pub p12 : (c : Cutter) → c .level ≡ 1 →
+      creatures (enemiesStepped (freshLevel c (61 ∷ 9 ∷ 1 ∷ 1 ∷ []))) ≡ (record { x = 61; y = 11; vx = negsuc 0; vy = pos 1 } ∷ [])
+  -- creature (10,10), velocity (1,1), only the diagonal claimed: stays, velocity unchanged
+  pub p13 : (c : Cutter) → c .level ≡ 1 →
+      let corner : Cutter = withGrid (freshLevel c (9 ∷ 9 ∷ 1 ∷ 1 ∷ [])) (set freshGrid (place 11 11) CB-FILLED) in
+      enemiesStepped corner ≡ corner
+
+pub record Cases : Type 0 where
+  pub mine : MineCases
+  pub cutter : CutterCases
+  -- mark 4,294,967,000: step due at 2,399,704, not at 2,399,703
+  pub p14 : (dueAt 2399704 4294967000 2400000 ≡ true) × (dueAt 2399703 4294967000 2400000 ≡ false)
