@@ -9,7 +9,8 @@ use Rattle.mine.specs.Calls.{moveCall, gravityCall, tickCall}
 use Rattle.mine.specs.Turn.{passOf}
 use Rattle.mine.specs.Picture.{pictureOf}
 use Rattle.mine.specs.Question.{whoAt}
-use Rattle.cutter.specs.Question as Cutter
+use Rattle.cutter.specs.Calls.{roundCall, levelCall, directionCall, stepCall, enemiesCall, respawnCall, reportCall}
+use Rattle.cutter.specs.Question as C
 use Rattle.games.specs.Tight.{Determined, MineTight, CutterTight, Tight}
 
 determined : {A : Type 0} (promised : A) → Determined promised
@@ -32,8 +33,15 @@ mine-tight =
 cutter-tight : CutterTight
 cutter-tight =
     record {
-      who = λ list x y. determined (Cutter.whoAt list x y);
-      who-of = λ enemies n x y. determined (Cutter.whoAt (take n enemies) x y);
+      new-round = λ draws. determined (roundCall draws);
+      new-level = λ c draws. determined (levelCall c draws);
+      direction = λ c dir. determined (directionCall c dir);
+      step-player = λ c. determined (stepCall c);
+      step-enemies = λ c. determined (enemiesCall c);
+      respawn = λ c. determined (respawnCall c);
+      ground-report = λ c. determined (reportCall c);
+      who = λ list x y. determined (C.whoAt list x y);
+      who-of = λ enemies n x y. determined (C.whoAt (take n enemies) x y);
     }
 
 pub tight : Tight

@@ -15,7 +15,9 @@ use Rattle.mine.specs.Turn.{passOf}
 use Rattle.mine.specs.Picture.{pictureOf}
 use Rattle.mine.specs.Question.{whoAt}
 use Rattle.ground.specs.declared.Mover.{Mover}
-use Rattle.cutter.specs.Question as Cutter
+use Rattle.cutter_state.specs.declared.Cutter.{Cutter}
+use Rattle.cutter.specs.Calls.{roundCall, levelCall, directionCall, stepCall, enemiesCall, respawnCall, reportCall}
+use Rattle.cutter.specs.Question as C
 
 -- every contract says of the outcome (answer and state, and the frame or record lent) that it is `promised`
 abbrev pub Determined : {A : Type 0} → A → Type 0
@@ -35,8 +37,15 @@ pub record MineTight : Type 0 where
 
 -- Block Cutter
 pub record CutterTight : Type 0 where
-  pub who : (list : List Mover) (x y : ℕ) → Determined (Cutter.whoAt list x y)
-  pub who-of : (enemies : List Mover) (n x y : ℕ) → Determined (Cutter.whoAt (take n enemies) x y)
+  pub new-round : (draws : List ℕ) → Determined (roundCall draws)
+  pub new-level : (c : Cutter) (draws : List ℕ) → Determined (levelCall c draws)
+  pub direction : (c : Cutter) (dir : ℕ) → Determined (directionCall c dir)
+  pub step-player : (c : Cutter) → Determined (stepCall c)
+  pub step-enemies : (c : Cutter) → Determined (enemiesCall c)
+  pub respawn : (c : Cutter) → Determined (respawnCall c)
+  pub ground-report : (c : Cutter) → Determined (reportCall c)
+  pub who : (list : List Mover) (x y : ℕ) → Determined (C.whoAt list x y)
+  pub who-of : (enemies : List Mover) (n x y : ℕ) → Determined (C.whoAt (take n enemies) x y)
 
 pub record Tight : Type 0 where
   pub mine : MineTight
