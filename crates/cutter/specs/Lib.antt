@@ -1,2 +1,3 @@
 pub mod Calls
+pub mod Picture
 pub mod Question

@@ -1,5 +1,6 @@
 // Block Cutter: the public calls.
 mod calls;
+mod picture;
 mod question;
 
 pub use calls::CutterAnswer;
@@ -11,5 +12,6 @@ pub use calls::new_round;
 pub use calls::respawn;
 pub use calls::step_enemies;
 pub use calls::step_player;
+pub use picture::render;
 pub use question::who;
 pub use question::who_of;

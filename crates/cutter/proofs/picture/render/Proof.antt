@@ -1,0 +1,52 @@
+-- `cutter::render` meets its contract. Assumes nothing.
+use mathlib.Core.List.{List}
+use mathlib.Core.Path.{_≡_, sym, _∙_, ap}
+use Prim.Native.Nat.{ℕ}
+use borrow.Author.Needs.{needs}
+use borrow.Author.Tests.{eq-eqb, ne-eqb}
+use Rattle.refusal.specs.Refusal.{NONE}
+use Rattle.refusal.proofs.Calls.{then-first, refused-by}
+use Rattle.frame.specs.Frame.{FRAME-LEN, pack}
+use Rattle.cutter_state.specs.WellFormed.{refusalOf}
+use Rattle.cutter_picture.specs.Picture.{cutLit}
+use Rattle.cutter.specs.Picture.{pictureOf}
+use Rattle.cutter.proofs.Accepted.{accepted}
+use Rattle.cutter.proofs.picture.render.Statement.{statement}
+use Rattle.cutter.proofs.picture.render.Tie as tie
+
+check-requires : tie.Need-check-requires
+check-requires c κs = search needs
+
+returns : tie.Need-returns
+unfolding pictureOf
+returns c =
+    let a = c .before .before .before .args in
+    let l = a .frame .now in
+    let e = c .before .check .ensures in
+    let n : refusalOf (a .c) ≡ NONE → ⊥ = λ z. c .if1 .taken (e ∙ z) in
+    rw (then-first (refusalOf (a .c)) _ n) (ap (λ (k : ℕ). (k, l)) e ∙ sym (refused-by (λ k. (k, l)) (NONE, pack (cutLit (a .c))) (refusalOf (a .c)) n))
+
+returns-2 : tie.Need-returns-2
+unfolding pictureOf
+returns-2 c =
+    let z = sym (c .before .before .check .ensures) ∙ c .before .if1 .left in
+    rw (z, ne-eqb _ FRAME-LEN (c .if2 .taken))
+
+cutter-render-requires : tie.Need-cutter-render-requires
+cutter-render-requires c κs =
+    let w = accepted _ (c .before .before .before .check .ensures) (c .before .before .if1 .left) in
+    record { formed = w; whole = c .before .if2 .left }
+
+same-length : tie.Need-same-length
+same-length c = search needs
+
+returns-3 : tie.Need-returns-3
+unfolding pictureOf
+returns-3 c =
+    let k = c .before .before .before .before in
+    let z = sym (k .before .before .check .ensures) ∙ k .before .if1 .left in
+    rw (z, eq-eqb _ FRAME-LEN (k .if2 .left)) (ap (λ (l : List ℕ). (NONE, l)) (c .before .before .«cutter-render» .ensures))
+
+pub render-spec : {M : Type 1} → statement M
+render-spec =
+    tie.close (tie.spec check-requires returns returns-2 cutter-render-requires same-length returns-3)
