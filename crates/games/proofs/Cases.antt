@@ -3,13 +3,24 @@ use Rattle.pace.proofs.Wrap.{due-across-wrap, not-due-across-wrap}
 use Rattle.mine_rules.proofs.Start as Start
 use Rattle.mine_rules.proofs.Cases as Mine
 use Rattle.cutter_rules.proofs.Cases as Cutter
-use Rattle.games.specs.Cases.{MineCases, CutterCases, Cases}
-
-mine-cases : MineCases
-mine-cases = record { p1 = Start.start; p2 = Start.p2; p3 = Start.p3; p4 = Mine.p4; p5 = Mine.p5; p6 = Mine.p6; p7 = Mine.p7; p8 = Mine.p8 }
-
-cutter-cases : CutterCases
-cutter-cases = record { p12 = Cutter.p12; p13 = Cutter.p13 }
+use Rattle.games.proofs.Cut as Cut
+use Rattle.games.specs.Cases.{Cases}
 
 pub cases : Cases
-cases = record { mine = mine-cases; cutter = cutter-cases; p14 = (due-across-wrap, not-due-across-wrap) }
+cases =
+    record {
+      p1 = Start.start;
+      p2 = Start.p2;
+      p3 = Start.p3;
+      p4 = Mine.p4;
+      p5 = Mine.p5;
+      p6 = Mine.p6;
+      p7 = Mine.p7;
+      p8 = Mine.p8;
+      p9 = Cut.p9;
+      p10 = Cut.p10;
+      p11 = Cut.p11;
+      p12 = Cutter.p12;
+      p13 = Cutter.p13;
+      p14 = (due-across-wrap, not-due-across-wrap);
+    }

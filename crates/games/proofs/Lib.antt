@@ -1,4 +1,5 @@
 pub mod MineCalls
 pub mod MineAccounts
 pub mod Tight
+pub mod Cut
 pub mod Cases
