@@ -10,6 +10,7 @@ use Rattle.mine.specs.Turn.{passOf}
 use Rattle.mine.specs.Picture.{pictureOf}
 use Rattle.mine.specs.Question.{whoAt}
 use Rattle.cutter.specs.Calls.{roundCall, levelCall, directionCall, stepCall, enemiesCall, respawnCall, reportCall}
+use Rattle.cutter.specs.Picture as P
 use Rattle.cutter.specs.Question as C
 use Rattle.games.specs.Tight.{Determined, MineTight, CutterTight, Tight}
 
@@ -39,6 +40,7 @@ cutter-tight =
       step-player = λ c. determined (stepCall c);
       step-enemies = λ c. determined (enemiesCall c);
       respawn = λ c. determined (respawnCall c);
+      render = λ c frame. determined (P.pictureOf c frame);
       ground-report = λ c. determined (reportCall c);
       who = λ list x y. determined (C.whoAt list x y);
       who-of = λ enemies n x y. determined (C.whoAt (take n enemies) x y);

@@ -17,6 +17,7 @@ use Rattle.mine.specs.Question.{whoAt}
 use Rattle.ground.specs.declared.Mover.{Mover}
 use Rattle.cutter_state.specs.declared.Cutter.{Cutter}
 use Rattle.cutter.specs.Calls.{roundCall, levelCall, directionCall, stepCall, enemiesCall, respawnCall, reportCall}
+use Rattle.cutter.specs.Picture as P
 use Rattle.cutter.specs.Question as C
 
 -- every contract says of the outcome (answer and state, and the frame or record lent) that it is `promised`
@@ -43,6 +44,7 @@ pub record CutterTight : Type 0 where
   pub step-player : (c : Cutter) → Determined (stepCall c)
   pub step-enemies : (c : Cutter) → Determined (enemiesCall c)
   pub respawn : (c : Cutter) → Determined (respawnCall c)
+  pub render : (c : Cutter) (frame : List ℕ) → Determined (P.pictureOf c frame)
   pub ground-report : (c : Cutter) → Determined (reportCall c)
   pub who : (list : List Mover) (x y : ℕ) → Determined (C.whoAt list x y)
   pub who-of : (enemies : List Mover) (n x y : ℕ) → Determined (C.whoAt (take n enemies) x y)
