@@ -3,3 +3,4 @@ pub mod MineAccounts
 pub mod Tight
 pub mod Cut
 pub mod Cases
+pub mod WrongPorts

@@ -2,3 +2,4 @@ pub mod MineCalls
 pub mod MineAccounts
 pub mod Tight
 pub mod Cases
+pub mod WrongPorts
