@@ -4,3 +4,4 @@ pub mod Tight
 pub mod Cut
 pub mod Cases
 pub mod WrongPorts
+pub mod CutterAccounts

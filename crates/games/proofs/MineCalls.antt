@@ -25,7 +25,7 @@ use Rattle.mine.specs.declared.calls.MineAnswer.{MineAnswer}
 use Rattle.mine.specs.Calls.{refused, answered, moveCall, gravityCall, tickCall}
 
 -- two checks that give no number: the first gives none
-first-none : (n k : ℕ) → (n then k) ≡ NONE → n ≡ NONE
+pub first-none : (n k : ℕ) → (n then k) ≡ NONE → n ≡ NONE
 first-none zero k e = refl
 first-none (suc n) k e = e
 

@@ -3,3 +3,4 @@ pub mod MineAccounts
 pub mod Tight
 pub mod Cases
 pub mod WrongPorts
+pub mod CutterAccounts
