@@ -26,7 +26,7 @@ use Rattle.cutter_keeps.proofs.Level.{level-fresh}
 use Rattle.cutter_keeps.proofs.Accounts.{kept-accounts, erased-accounts, accounts-then, step-accounts}
 use Rattle.cutter.specs.declared.calls.CutterAnswer.{CutterAnswer}
 use Rattle.cutter.specs.Calls.{refused, answered, zeros, FIRST-LEVEL, roundCall, levelCall, directionCall, stepCall, enemiesCall, respawnCall}
-use Rattle.games.specs.CutterAccounts.{CutterCall, Round, Level, Direction, Step, Tick, Respawn, Report, Picture, Question, called, starts, claims, loses, after, goesOn, sum, CutterAccounts}
+use Rattle.games.specs.CutterAccounts.{CutterCall, Round, Level, Direction, Step, Tick, Respawn, Report, Picture, Question, Outcome, called, after, goesOn, sum, claims, loses, CutterAccounts}
 use Rattle.games.proofs.MineCalls.{first-none}
 
 -- two checks that give no number: the second gives none
@@ -43,14 +43,14 @@ off true e = absurd (false≢true e)
 off false e = refl
 
 module _ (c : Cutter) where
-  round-refused : (draws : List ℕ) → WellFormed c → starts c (Round draws) ≡ false → Kept c (called c (Round draws))
-  unfolding called starts
+  round-refused : (draws : List ℕ) → WellFormed c → called c (Round draws) .starts ≡ false → Kept c (called c (Round draws) .game)
+  unfolding called
   round-refused draws w e =
       let n : ℕ = roundCall draws .refusal in
       refused-or-answered (λ _. c) (roundCall draws .game) (Kept c) n (λ _. kept-self w) (λ z. absurd (false≢true (sym e ∙ eq-eqb n NONE z)))
 
-  level-refused : (draws : List ℕ) → WellFormed c → starts c (Level draws) ≡ false → Kept c (called c (Level draws))
-  unfolding called starts levelCall
+  level-refused : (draws : List ℕ) → WellFormed c → called c (Level draws) .starts ≡ false → Kept c (called c (Level draws) .game)
+  unfolding called levelCall
   level-refused draws w =
       refused-or-answered (refused c) (answered (freshLevel c draws)) (λ (a : CutterAnswer). eqb (a .refusal) NONE ≡ false → Kept c (a .game))
       (refusalOf c then unless (drawsOk draws (creaturesOf (c .level))) DRAWS)
@@ -81,8 +81,8 @@ module _ (c : Cutter) where
   unfolding respawnCall
   respawn-called w = subst (λ (a : CutterAnswer). Accounts c (a .game) 0 0) (sym (plays (respawned c) w)) (erased-accounts (respawn-erased c w))
 
-called-accounts : (c : Cutter) (k : CutterCall) → WellFormed c → starts c k ≡ false → Accounts c (called c k) (claims c k) (loses c k)
-unfolding called claims loses
+called-accounts : (c : Cutter) (k : CutterCall) → WellFormed c → called c k .starts ≡ false → Accounts c (called c k .game) (called c k .claims) (called c k .loses)
+unfolding called
 called-accounts c (Round draws) w e = kept-accounts (round-refused c draws w e)
 called-accounts c (Level draws) w e = kept-accounts (level-refused c draws w e)
 called-accounts c (Direction dir) w e = kept-accounts (direction-called c dir w)
@@ -93,12 +93,12 @@ called-accounts c Report w e = kept-accounts (kept-self w)
 called-accounts c (Picture frame) w e = kept-accounts (kept-self w)
 called-accounts c (Question list x y) w e = kept-accounts (kept-self w)
 
-after-accounts : (c : Cutter) (ks : List CutterCall) → WellFormed c → goesOn c ks ≡ true → Accounts c (after c ks) (sum claims c ks) (sum loses c ks)
+after-accounts : (c : Cutter) (ks : List CutterCall) → WellFormed c → goesOn c ks ≡ true → Accounts c (after c ks) (claims c ks) (loses c ks)
 unfolding after goesOn sum
 after-accounts c [] w e = kept-accounts (kept-self w)
 after-accounts c (k ∷ ks) w e =
-    let a = called-accounts c k w (off (starts c k) (and-left (not (starts c k)) (goesOn (called c k) ks) e)) in
-    accounts-then a (after-accounts (called c k) ks (a .formed) (and-right (not (starts c k)) (goesOn (called c k) ks) e))
+    let a = called-accounts c k w (off (called c k .starts) (and-left (not (called c k .starts)) (goesOn (called c k .game) ks) e)) in
+    accounts-then a (after-accounts (called c k .game) ks (a .formed) (and-right (not (called c k .starts)) (goesOn (called c k .game) ks) e))
 
 round-fresh : (draws : List ℕ) → roundCall draws .refusal ≡ NONE → Fresh (roundCall draws .game)
 unfolding roundCall
@@ -124,7 +124,7 @@ cutter-accounts =
     record {
       round = round-fresh;
       level = call-fresh;
-      claimed = λ c ks f e. after-accounts c ks (f .formed) e .claimed ∙ ap (λ (n : ℕ). n + sum claims c ks) (f .claimed);
+      claimed = λ c ks f e. after-accounts c ks (f .formed) e .claimed ∙ ap (λ (n : ℕ). n + claims c ks) (f .claimed);
       creatures = λ c ks f e. after-accounts c ks (f .formed) e .creatures;
       formed = λ c ks f e. after-accounts c ks (f .formed) e .formed;
       fromAny = after-accounts;

@@ -20,74 +20,58 @@ pub data CutterCall : Type 0 where
   Picture : (frame : List ℕ) → CutterCall
   Question : (list : List Mover) (x y : ℕ) → CutterCall
 
-module _ (c : Cutter) where
-  -- what a call leaves, by its promise; a refused new round leaves the state that the host has
-  unfoldable pub called : CutterCall → Cutter
-  called (Round draws) = refusedOr (roundCall draws .refusal) (λ _. c) (roundCall draws .game)
-  called (Level draws) = levelCall c draws .game
-  called (Direction dir) = directionCall c dir .game
-  called Step = stepCall c .game
-  called Tick = enemiesCall c .game
-  called Respawn = respawnCall c .game
-  called Report = c
-  called (Picture frame) = c
-  called (Question list x y) = c
+-- what a call leaves; whether it starts a level; cells claimed and creatures lost by its closing
+pub record Outcome : Type 0 where
+  pub game : Cutter
+  pub starts : Bool
+  pub claims : ℕ
+  pub loses : ℕ
 
-  -- it starts a level: an accepted new round or fresh level
-  unfoldable pub starts : CutterCall → Bool
-  starts (Round draws) = eqb (roundCall draws .refusal) NONE
-  starts (Level draws) = eqb (levelCall c draws .refusal) NONE
-  starts (Direction dir) = false
-  starts Step = false
-  starts Tick = false
-  starts Respawn = false
-  starts Report = false
-  starts (Picture frame) = false
-  starts (Question list x y) = false
+-- it starts a level where it is not refused
+abbrev pub starting : ℕ → Cutter → Outcome
+starting refusal s = record { game = s; starts = eqb refusal NONE; claims = 0; loses = 0 }
 
-  -- a step closes a cut, or not: cells it claims, and creatures it loses
-  unfoldable pub claims : CutterCall → ℕ
-  claims (Round draws) = 0
-  claims (Level draws) = 0
-  claims (Direction dir) = 0
-  claims Step = stepClaims c
-  claims Tick = 0
-  claims Respawn = 0
-  claims Report = 0
-  claims (Picture frame) = 0
-  claims (Question list x y) = 0
+abbrev pub only : Cutter → Outcome
+only s = record { game = s; starts = false; claims = 0; loses = 0 }
 
-  unfoldable pub loses : CutterCall → ℕ
-  loses (Round draws) = 0
-  loses (Level draws) = 0
-  loses (Direction dir) = 0
-  loses Step = stepLoses c
-  loses Tick = 0
-  loses Respawn = 0
-  loses Report = 0
-  loses (Picture frame) = 0
-  loses (Question list x y) = 0
+-- by its promise; a refused new round leaves the state that the host has
+unfoldable pub called : Cutter → CutterCall → Outcome
+called c (Round draws) = starting (roundCall draws .refusal) (refusedOr (roundCall draws .refusal) (λ _. c) (roundCall draws .game))
+called c (Level draws) = starting (levelCall c draws .refusal) (levelCall c draws .game)
+called c (Direction dir) = only (directionCall c dir .game)
+called c Step = record { game = stepCall c .game; starts = false; claims = stepClaims c; loses = stepLoses c }
+called c Tick = only (enemiesCall c .game)
+called c Respawn = only (respawnCall c .game)
+called c Report = only c
+called c (Picture frame) = only c
+called c (Question list x y) = only c
 
 -- the state after a list of calls, that none of them starts a level, and the sums over their closings
 unfoldable pub after : Cutter → List CutterCall → Cutter
 after c [] = c
-after c (k ∷ ks) = after (called c k) ks
+after c (k ∷ ks) = after (called c k .game) ks
 
 unfoldable pub goesOn : Cutter → List CutterCall → Bool
 goesOn c [] = true
-goesOn c (k ∷ ks) = not (starts c k) && goesOn (called c k) ks
+goesOn c (k ∷ ks) = not (called c k .starts) && goesOn (called c k .game) ks
 
-unfoldable pub sum : (Cutter → CutterCall → ℕ) → Cutter → List CutterCall → ℕ
-sum f c [] = 0
-sum f c (k ∷ ks) = f c k + sum f (called c k) ks
+unfoldable pub sum : (Outcome → ℕ) → Cutter → List CutterCall → ℕ
+sum part c [] = 0
+sum part c (k ∷ ks) = part (called c k) + sum part (called c k .game) ks
+
+abbrev pub claims : Cutter → List CutterCall → ℕ
+claims c ks = sum (λ o. o .claims) c ks
+
+abbrev pub loses : Cutter → List CutterCall → ℕ
+loses c ks = sum (λ o. o .loses) c ks
 
 pub record CutterAccounts : Type 0 where
   -- what an accepted new round or fresh level gives is fresh
   pub round : (draws : List ℕ) → roundCall draws .refusal ≡ NONE → Fresh (roundCall draws .game)
   pub level : (c : Cutter) (draws : List ℕ) → levelCall c draws .refusal ≡ NONE → Fresh (levelCall c draws .game)
   -- from there: 188 and what the closings claimed; the creatures left and those that the closings lost
-  pub claimed : (c : Cutter) (ks : List CutterCall) → Fresh c → goesOn c ks ≡ true → claimedIn (after c ks) ≡ 188 + sum claims c ks
-  pub creatures : (c : Cutter) (ks : List CutterCall) → Fresh c → goesOn c ks ≡ true → c .count ≡ after c ks .count + sum loses c ks
+  pub claimed : (c : Cutter) (ks : List CutterCall) → Fresh c → goesOn c ks ≡ true → claimedIn (after c ks) ≡ 188 + claims c ks
+  pub creatures : (c : Cutter) (ks : List CutterCall) → Fresh c → goesOn c ks ≡ true → c .count ≡ after c ks .count + loses c ks
   pub formed : (c : Cutter) (ks : List CutterCall) → Fresh c → goesOn c ks ≡ true → WellFormed (after c ks)
   -- the same of any well-formed start
-  pub fromAny : (c : Cutter) (ks : List CutterCall) → WellFormed c → goesOn c ks ≡ true → Accounts c (after c ks) (sum claims c ks) (sum loses c ks)
+  pub fromAny : (c : Cutter) (ks : List CutterCall) → WellFormed c → goesOn c ks ≡ true → Accounts c (after c ks) (claims c ks) (loses c ks)
