@@ -1,5 +1,5 @@
 -- The accounts of Block Cutter. Assumes nothing.
-use mathlib.Core.Bool.{Bool, true, false, not, _&&_, false≢true}
+use mathlib.Core.Bool.{Bool, true, false, not, false≢true}
 use mathlib.Core.List.{List, [], _∷_}
 use mathlib.Core.Path.{_≡_, refl, sym, ap, subst, _∙_}
 use Prim.Native.Nat.{ℕ, zero, suc, _+_}
@@ -26,7 +26,7 @@ use Rattle.cutter_keeps.proofs.Level.{level-fresh}
 use Rattle.cutter_keeps.proofs.Accounts.{kept-accounts, erased-accounts, accounts-then, step-accounts}
 use Rattle.cutter.specs.declared.calls.CutterAnswer.{CutterAnswer}
 use Rattle.cutter.specs.Calls.{refused, answered, zeros, FIRST-LEVEL, roundCall, levelCall, directionCall, stepCall, enemiesCall, respawnCall}
-use Rattle.games.specs.CutterAccounts.{CutterCall, Round, Level, Direction, Step, Tick, Respawn, Report, Picture, Question, Outcome, called, after, goesOn, sum, claims, loses, CutterAccounts}
+use Rattle.games.specs.CutterAccounts.{CutterCall, Round, Level, Direction, Step, Tick, Respawn, Report, Picture, Question, called, after, goesOn, sum, claims, loses, CutterAccounts}
 use Rattle.games.proofs.MineCalls.{first-none}
 
 -- two checks that give no number: the second gives none
@@ -69,7 +69,7 @@ module _ (c : Cutter) where
   plays : (s : Cutter) → WellFormed c → refusedOr (refusalOf c) (refused c) (answered s) ≡ answered s
   plays s w = answered-by (refused c) (answered s) (refusalOf c) (well-formed-none c (from-facts c w))
 
-  step-called : WellFormed c → Accounts c (stepCall c .game) (stepClaims c) (stepLoses c)
+  pub step-called : WellFormed c → Accounts c (stepCall c .game) (stepClaims c) (stepLoses c)
   unfolding stepCall
   step-called w = subst (λ (a : CutterAnswer). Accounts c (a .game) (stepClaims c) (stepLoses c)) (sym (plays (stepped c) w)) (step-accounts c w)
 

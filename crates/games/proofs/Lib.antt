@@ -3,5 +3,5 @@ pub mod MineAccounts
 pub mod Tight
 pub mod Cut
 pub mod Cases
-pub mod WrongPorts
 pub mod CutterAccounts
+pub mod WrongPorts

@@ -1,5 +1,5 @@
 -- Each promise is one equation with a definition of the inputs, so it is met by one outcome only. Assumes nothing.
-use mathlib.Core.Path.{_≡_, sym, _∙_}
+use mathlib.Core.Path.{sym, _∙_}
 use lib.ListN.{take}
 use Rattle.pace.specs.Pace.{started, dueAt, ticked}
 use Rattle.frame.specs.Frame.{pageOf}

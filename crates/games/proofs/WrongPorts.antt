@@ -7,15 +7,18 @@ use Rattle.refusal.specs.Refusal.{NONE, COMMAND, unless, _then_}
 use Rattle.refusal.proofs.Calls.{answered-by}
 use Rattle.mine_state.specs.declared.Mine.{Mine}
 use Rattle.mine_state.specs.State.{purse, emptyAt, freeAt}
-use Rattle.mine_state.specs.WellFormed.{WellFormed, cellsOk, creaturesOk, numbersOk, refusalOf}
+use Rattle.mine_state.specs.WellFormed.{cellsOk, creaturesOk, numbersOk, refusalOf}
 use Rattle.mine_rules.specs.Ways.{RIGHT, LEFT, nextCell}
 use Rattle.mine_rules.specs.Load.{loaded}
 use Rattle.mine_rules.specs.Move.{pushed, met, moved}
 use Rattle.mine_rules.proofs.Start.{drawn, loaded-drawn}
 use Rattle.mine.specs.declared.calls.MineAnswer.{MineAnswer}
 use Rattle.mine.specs.Calls.{refused, answered, moveCall}
-use Rattle.games.specs.WrongPorts.{Keeps, Wrong}
+use Rattle.cutter_keeps.specs.Kept.{claimedIn}
+use Rattle.cutter.specs.declared.calls.CutterAnswer.{CutterAnswer}
+use Rattle.games.specs.WrongPorts.{Keeps, Wrong, WrongPorts}
 use Rattle.games.proofs.MineCalls.{moveCall-kept}
+use Rattle.games.proofs.CutterAccounts.{step-called}
 
 -- to the right where the state is not refused
 goes : (m : Mine) → refusalOf m ≡ NONE → moveCall m RIGHT ≡ answered (moved m RIGHT)
@@ -54,7 +57,7 @@ module _ (port : Mine → ℕ → MineAnswer) (kept : Keeps port) where
   game : {a b : MineAnswer} → a ≡ b → a .game ≡ b .game
   game e = ap (λ (a : MineAnswer). a .game) e
 
-  pub wrong : Wrong port
+  wrong : Wrong port
   wrong =
       record {
         refuses-always = λ h. h loaded RIGHT (ap (λ (a : MineAnswer). a .refusal) once);
@@ -63,3 +66,10 @@ module _ (port : Mine → ℕ → MineAnswer) (kept : Keeps port) where
         idles-then = λ h. idles (sym (game twice) ∙ ap (λ (m : Mine). port m RIGHT .game) (sym (game once)) ∙ h loaded RIGHT RIGHT ∙ game once);
         invents-a-coin = λ m dir w h. h (ap purse (game (kept m dir)) ∙ moveCall-kept m dir w .coins);
       }
+
+pub wrong-ports : WrongPorts
+wrong-ports =
+    record {
+      move = wrong;
+      step = λ port kept c w h. h (ap (λ (a : CutterAnswer). claimedIn (a .game)) (kept c) ∙ step-called c w .claimed);
+    }

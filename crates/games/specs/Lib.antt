@@ -2,5 +2,5 @@ pub mod MineCalls
 pub mod MineAccounts
 pub mod Tight
 pub mod Cases
-pub mod WrongPorts
 pub mod CutterAccounts
+pub mod WrongPorts
