@@ -26,7 +26,7 @@ use Rattle.cutter_keeps.proofs.Level.{level-fresh}
 use Rattle.cutter_keeps.proofs.Accounts.{kept-accounts, erased-accounts, accounts-then, step-accounts}
 use Rattle.cutter.specs.declared.calls.CutterAnswer.{CutterAnswer}
 use Rattle.cutter.specs.Calls.{refused, answered, zeros, FIRST-LEVEL, roundCall, levelCall, directionCall, stepCall, enemiesCall, respawnCall}
-use Rattle.games.specs.CutterAccounts.{CutterCall, Round, Level, Direction, Step, Tick, Respawn, Report, Picture, Question, called, after, goesOn, sum, claims, loses, CutterAccounts}
+use Rattle.games.specs.CutterAccounts.{CutterCall, Round, Level, Direction, Step, Tick, Respawn, Report, Picture, Question, called, after, goesOn, sum, claims, loses, CutterAccounts, Formed, CutterFormed}
 use Rattle.games.proofs.MineCalls.{first-none}
 
 -- two checks that give no number: the second gives none
@@ -128,4 +128,41 @@ cutter-accounts =
       creatures = λ c ks f e. after-accounts c ks (f .formed) e .creatures;
       formed = λ c ks f e. after-accounts c ks (f .formed) e .formed;
       fromAny = after-accounts;
+    }
+
+-- a call that answers with s where the number n is none
+call-formed : (c s : Cutter) (n : ℕ) → (n ≡ NONE → WellFormed s) → Formed (refusedOr n (refused c) (answered s))
+call-formed c s n f = refused-or-answered (refused c) (answered s) Formed n (λ some none. absurd (some none)) (λ e _. f e)
+
+module _ (c : Cutter) where
+  accepted : refusalOf c ≡ NONE → WellFormed c
+  accepted e = facts c (none-well-formed c e)
+
+  direction-formed : (dir : ℕ) → Formed (directionCall c dir)
+  unfolding directionCall
+  direction-formed dir =
+      let no : ℕ = unless (leb dir LEFT) COMMAND in
+      call-formed c (directed c dir) (refusalOf c then no) (λ e. direction-kept c dir (accepted (first-none (refusalOf c) no e)) .formed)
+
+  step-formed : Formed (stepCall c)
+  unfolding stepCall
+  step-formed = call-formed c (stepped c) (refusalOf c) (λ e. step-accounts c (accepted e) .formed)
+
+  tick-formed : Formed (enemiesCall c)
+  unfolding enemiesCall
+  tick-formed = call-formed c (enemiesStepped c) (refusalOf c) (λ e. tick-kept c (accepted e) .formed)
+
+  respawn-formed : Formed (respawnCall c)
+  unfolding respawnCall
+  respawn-formed = call-formed c (respawned c) (refusalOf c) (λ e. respawn-erased c (accepted e) .formed)
+
+pub cutter-formed : CutterFormed
+cutter-formed =
+    record {
+      round = λ draws e. round-fresh draws e .formed;
+      level = λ c draws e. call-fresh c draws e .formed;
+      direction = direction-formed;
+      step = step-formed;
+      tick = tick-formed;
+      respawn = respawn-formed;
     }

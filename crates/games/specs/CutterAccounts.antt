@@ -11,6 +11,7 @@ use Rattle.cutter_state.specs.declared.Cutter.{Cutter}
 use Rattle.cutter_state.specs.WellFormed.{WellFormed}
 use Rattle.cutter_keeps.specs.Kept.{claimedIn, Fresh}
 use Rattle.cutter_keeps.specs.Steps.{stepClaims, stepLoses, Accounts}
+use Rattle.cutter.specs.declared.calls.CutterAnswer.{CutterAnswer}
 use Rattle.cutter.specs.Calls.{roundCall, levelCall, directionCall, stepCall, enemiesCall, respawnCall}
 
 pub data CutterCall : Type 0 where
@@ -75,3 +76,15 @@ pub record CutterAccounts : Type 0 where
   pub formed : (c : Cutter) (ks : List CutterCall) → Fresh c → goesOn c ks ≡ true → WellFormed (after c ks)
   -- the same of any well-formed start
   pub fromAny : (c : Cutter) (ks : List CutterCall) → WellFormed c → goesOn c ks ≡ true → Accounts c (after c ks) (claims c ks) (loses c ks)
+
+-- every state given without a refusal is well formed, whatever state came
+abbrev pub Formed : CutterAnswer → Type 0
+Formed a = a .refusal ≡ NONE → WellFormed (a .game)
+
+pub record CutterFormed : Type 0 where
+  pub round : (draws : List ℕ) → Formed (roundCall draws)
+  pub level : (c : Cutter) (draws : List ℕ) → Formed (levelCall c draws)
+  pub direction : (c : Cutter) (dir : ℕ) → Formed (directionCall c dir)
+  pub step : (c : Cutter) → Formed (stepCall c)
+  pub tick : (c : Cutter) → Formed (enemiesCall c)
+  pub respawn : (c : Cutter) → Formed (respawnCall c)
