@@ -1,3 +1,4 @@
 pub mod Runs
 pub mod MineBytes
+pub mod CutBytes
 pub mod Example

@@ -1,5 +1,8 @@
 // From standard input to standard output, to the end of the input.
+use crate::cut_run;
+use crate::cut_start;
 use crate::mine_run;
+use cutter_state::Cutter;
 use libc::STDIN_FILENO;
 use libc::STDOUT_FILENO;
 use mine_state::Mine;
@@ -42,6 +45,43 @@ pub fn play_mines(parted: bool) {
             return;
         }
         m = turn.game;
+        turns -= 1;
+    }
+}
+
+struct CutTurn {
+    game: Cutter,
+    more: bool,
+}
+
+// Reads once, plays what came and writes its lines; answers whether there may be more.
+fn cut_turn(c: Cutter, parted: bool) -> CutTurn {
+    let mut input = [0u8; READ];
+    let got = libc::read(STDIN_FILENO, &mut input);
+    let n = io::count(got, &input);
+    if n == 0 {
+        return CutTurn {
+            game: c,
+            more: false,
+        };
+    }
+    let mut out = io::large_buffer();
+    let run = cut_run(c, parted, &input[..n], &mut out);
+    let end = run.end;
+    let game = run.game;
+    let more = io::write_all(STDOUT_FILENO, &out[..end]);
+    CutTurn { game, more }
+}
+
+pub fn play_cuts(parted: bool) {
+    let mut c = cut_start();
+    let mut turns = u64::MAX;
+    while turns > 0 {
+        let turn = cut_turn(c, parted);
+        if !turn.more {
+            return;
+        }
+        c = turn.game;
         turns -= 1;
     }
 }

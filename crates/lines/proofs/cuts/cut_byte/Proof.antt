@@ -1,0 +1,115 @@
+-- `lines::cut_byte` meets its contract. Assumes nothing.
+use mathlib.Core.Path.{_∙_, ap}
+use borrow.Author.Tests.{ne-eqb}
+use Rattle.lines.specs.Cuts.{saidOf, cutByte}
+use borrow.Author.Needs.{needs}
+use Rattle.lines.proofs.cuts.cut_byte.Statement.{statement}
+use Rattle.lines.proofs.cuts.cut_byte.Tie as tie
+
+direction-requires : tie.Need-direction-requires
+direction-requires c κs = search needs
+
+said-of-requires : tie.Need-said-of-requires
+said-of-requires c κs = search needs
+
+direction-requires-2 : tie.Need-direction-requires-2
+direction-requires-2 c κs = search needs
+
+said-of-requires-2 : tie.Need-said-of-requires-2
+said-of-requires-2 c κs = search needs
+
+direction-requires-3 : tie.Need-direction-requires-3
+direction-requires-3 c κs = search needs
+
+said-of-requires-3 : tie.Need-said-of-requires-3
+said-of-requires-3 c κs = search needs
+
+direction-requires-4 : tie.Need-direction-requires-4
+direction-requires-4 c κs = search needs
+
+said-of-requires-4 : tie.Need-said-of-requires-4
+said-of-requires-4 c κs = search needs
+
+step-player-requires : tie.Need-step-player-requires
+step-player-requires c κs = search needs
+
+said-of-requires-5 : tie.Need-said-of-requires-5
+said-of-requires-5 c κs = search needs
+
+step-enemies-requires : tie.Need-step-enemies-requires
+step-enemies-requires c κs = search needs
+
+said-of-requires-6 : tie.Need-said-of-requires-6
+said-of-requires-6 c κs = search needs
+
+respawn-requires : tie.Need-respawn-requires
+respawn-requires c κs = search needs
+
+said-of-requires-7 : tie.Need-said-of-requires-7
+said-of-requires-7 c κs = search needs
+
+returns : tie.Need-returns
+unfolding cutByte
+returns c = rw (c .match .keys1)
+
+returns-2 : tie.Need-returns-2
+unfolding cutByte
+returns-2 c = rw (c .before .before .match .keys2) (c .said-of .ensures ∙ ap saidOf (c .before .«direction» .ensures))
+
+returns-3 : tie.Need-returns-3
+unfolding cutByte
+returns-3 c = rw (c .before .before .match .keys3) (c .said-of2 .ensures ∙ ap saidOf (c .before .direction2 .ensures))
+
+returns-4 : tie.Need-returns-4
+unfolding cutByte
+returns-4 c = rw (c .before .before .match .keys4) (c .said-of3 .ensures ∙ ap saidOf (c .before .direction3 .ensures))
+
+returns-5 : tie.Need-returns-5
+unfolding cutByte
+returns-5 c = rw (c .before .before .match .keys5) (c .said-of4 .ensures ∙ ap saidOf (c .before .direction4 .ensures))
+
+returns-6 : tie.Need-returns-6
+unfolding cutByte
+returns-6 c = rw (c .before .before .match .keys6) (c .said-of5 .ensures ∙ ap saidOf (c .before .«step-player» .ensures))
+
+returns-7 : tie.Need-returns-7
+unfolding cutByte
+returns-7 c = rw (c .before .before .match .keys7) (c .said-of6 .ensures ∙ ap saidOf (c .before .«step-enemies» .ensures))
+
+returns-8 : tie.Need-returns-8
+unfolding cutByte
+returns-8 c = rw (c .before .before .match .keys8) (c .said-of7 .ensures ∙ ap saidOf (c .before .«respawn» .ensures))
+
+returns-9 : tie.Need-returns-9
+unfolding cutByte
+returns-9 c =
+    let n = c .match .rest in
+    simp (ne-eqb _ _ (n .0 .0 .0 .0 .0 .0 .0 .1), ne-eqb _ _ (n .0 .0 .0 .0 .0 .0 .1), ne-eqb _ _ (n .0 .0 .0 .0 .0 .1), ne-eqb _ _ (n .0 .0 .0 .0 .1), ne-eqb _ _ (n .0 .0 .0 .1), ne-eqb _ _ (n .0 .0 .1), ne-eqb _ _ (n .0 .1), ne-eqb _ _ (n .1))
+
+pub cut-byte-spec : {M : Type 1} → statement M
+cut-byte-spec =
+    tie.close
+    (tie.spec
+    direction-requires
+    said-of-requires
+    direction-requires-2
+    said-of-requires-2
+    direction-requires-3
+    said-of-requires-3
+    direction-requires-4
+    said-of-requires-4
+    step-player-requires
+    said-of-requires-5
+    step-enemies-requires
+    said-of-requires-6
+    respawn-requires
+    said-of-requires-7
+    returns
+    returns-2
+    returns-3
+    returns-4
+    returns-5
+    returns-6
+    returns-7
+    returns-8
+    returns-9)
