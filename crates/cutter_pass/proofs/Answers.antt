@@ -1,0 +1,51 @@
+-- The ways through a pass, each as the definition has it. Assumes nothing.
+use mathlib.Core.Bool.{true, false, cond}
+use mathlib.Core.List.{List}
+use mathlib.Core.Path.{_≡_, sym, _∙_, ap}
+use Prim.Native.Nat.{ℕ}
+use Rattle.refusal.specs.Refusal.{NONE}
+use Rattle.refusal.proofs.Calls.{refused-by, answered-by}
+use Rattle.answer.specs.declared.Answer.the-variants.{GoingOn, Quit}
+use Rattle.pace.specs.declared.Ticks.{Ticks}
+use Rattle.pace.specs.Pace.{ticked}
+use Rattle.cutter_state.specs.declared.Cutter.{Cutter}
+use Rattle.cutter_rules.specs.Tick.{enemiesStepped}
+use Rattle.cutter_pass.specs.declared.Played.{Played}
+use Rattle.cutter_pass.specs.declared.CutterTurn.{CutterTurn}
+use Rattle.cutter_pass.specs.Pass.{CUT-MOVE-CYCLES, CUT-ENEMY-CYCLES, passRefusal, nextLevel, played, moved, still, afterDeath, afterKeys, passOn, passAt}
+
+module _ (first second time : ℕ) (p : Played) where
+  pub after-quit : p .quit ≡ true → still first second NONE Quit (p .game) ≡ afterKeys first second time p
+  unfolding afterKeys
+  after-quit k = rw k
+
+  pub after-ticks : p .quit ≡ false → {due : Ticks} → due ≡ ticked time first second CUT-MOVE-CYCLES CUT-ENEMY-CYCLES
+      → {s : Cutter} → s ≡ cond (due .one) (moved (p .game)) (p .game) → {game : Cutter} → game ≡ cond (due .two) (enemiesStepped s) s
+      → still (due .first) (due .second) NONE GoingOn game ≡ afterKeys first second time p
+  unfolding afterKeys
+  after-ticks k t f g = rw (k, g, f, t)
+
+module _ (c : Cutter) (keys draws : List ℕ) (time first second : ℕ) where
+  pub on-dead : c .dead ≡ true → passOn first second c keys draws time ≡ afterDeath first second c
+  unfolding passOn
+  on-dead d = rw d
+
+  pub on-level : c .dead ≡ false → c .«won_level» ≡ true → passOn first second c keys draws time ≡ still first second NONE GoingOn (nextLevel c draws)
+  unfolding passOn
+  on-level d w = rw (d, w)
+
+  pub on-keys : c .dead ≡ false → c .«won_level» ≡ false → passOn first second c keys draws time ≡ afterKeys first second time (played c keys)
+  unfolding passOn
+  on-keys d w = rw (d, w)
+
+  module _ {no : ℕ} (e : no ≡ passRefusal c draws) where
+    abbrev refused : ℕ → CutterTurn
+    refused n = still first second n GoingOn c
+
+    pub refused-pass : (no ≡ NONE → ⊥) → refused no ≡ passAt c keys draws time first second
+    unfolding passAt
+    refused-pass n = ap refused e ∙ sym (refused-by refused (passOn first second c keys draws time) (passRefusal c draws) (λ z. n (e ∙ z)))
+
+    pub played-pass : no ≡ NONE → {t : CutterTurn} → passOn first second c keys draws time ≡ t → t ≡ passAt c keys draws time first second
+    unfolding passAt
+    played-pass z q = sym q ∙ sym (answered-by refused (passOn first second c keys draws time) (passRefusal c draws) (sym e ∙ z))

@@ -1,0 +1,45 @@
+-- The keys of a pass: a turn of the loop over them, and what they keep. Assumes nothing.
+use mathlib.Core.Bool.{true, false}
+use mathlib.Core.List.{List, [], _∷_}
+use mathlib.Core.Path.{_≡_}
+use Prim.Native.Nat.{ℕ, _+_}
+use lib.Dec.{eqb}
+use lib.ListN.{drop}
+use Rattle.laws.proofs.Choice.{cond-both}
+use Rattle.cutter_state.specs.declared.Cutter.{Cutter}
+use Rattle.cutter_state.specs.WellFormed.{WellFormed}
+use Rattle.cutter_rules.specs.Step.{UP, RIGHT, DOWN, LEFT}
+use Rattle.cutter_keeps.specs.Kept.{Kept}
+use Rattle.cutter_keeps.proofs.Changes.{kept-self, kept-then}
+use Rattle.cutter_keeps.proofs.Direction.{direction-kept}
+use Rattle.cutter_pass.specs.Pass.{KEY-QUIT, keyed, played}
+use Rattle.cutter_pass.specs.declared.Played.{Played}
+
+-- A loop over the keys: what is left of them makes R of the state.
+module _ (s : Cutter) (keys : List ℕ) (i : ℕ) {R : Played} where
+  pub keys-more : {key : ℕ} → drop i keys ≡ key ∷ drop (i + 1) keys → played s (drop i keys) ≡ R → eqb key KEY-QUIT ≡ false → played (keyed s key) (drop (i + 1) keys) ≡ R
+  unfolding played
+  keys-more h e n = rw (h, n) at e
+
+  pub keys-quit : {key : ℕ} → drop i keys ≡ key ∷ drop (i + 1) keys → played s (drop i keys) ≡ R → eqb key KEY-QUIT ≡ true → record { quit = true; game = s } ≡ R
+  unfolding played
+  keys-quit h e n = rw (h, n) at e
+
+  pub keys-end : drop i keys ≡ [] → played s (drop i keys) ≡ R → record { quit = false; game = s } ≡ R
+  unfolding played
+  keys-end h e = rw h at e
+
+pub key-kept : (c : Cutter) (key : ℕ) → WellFormed c → Kept c (keyed c key)
+unfolding keyed
+key-kept c key w =
+    cond-both (Kept c) (eqb key 5) _ _ (λ _. direction-kept c UP w)
+    (λ _. cond-both (Kept c) (eqb key 8) _ _ (λ _. direction-kept c DOWN w)
+    (λ _. cond-both (Kept c) (eqb key 7) _ _ (λ _. direction-kept c LEFT w)
+    (λ _. cond-both (Kept c) (eqb key 9) _ _ (λ _. direction-kept c RIGHT w) (λ _. kept-self w))))
+
+pub keys-kept : (c : Cutter) (keys : List ℕ) → WellFormed c → Kept c (played c keys .game)
+unfolding played
+keys-kept c [] w = kept-self w
+keys-kept c (key ∷ keys) w =
+    cond-both (λ (p : Played). Kept c (p .game)) (eqb key KEY-QUIT) _ _ (λ _. kept-self w)
+    (λ _. let k = key-kept c key w in kept-then k (keys-kept (keyed c key) keys (k .formed)))

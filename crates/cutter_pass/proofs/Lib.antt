@@ -1,0 +1,5 @@
+pub mod Refused
+pub mod Keys
+pub mod Kept
+pub mod Accounts
+pub mod Answers

@@ -1,0 +1,56 @@
+-- What a pass that isn't refused tells of its state and its draws. Assumes nothing.
+use mathlib.Core.Bool.{Bool, true, false, cond, not}
+use mathlib.Core.List.{List}
+use mathlib.Core.Path.{_≡_, refl, sym, _∙_, ap}
+use Prim.Native.Nat.{ℕ, zero, suc, _+_, _<_}
+use native.Mathlib.Omega.{arith}
+use lib.Dec.{eqb}
+use lib.ListN.{length}
+use borrow.Author.Tests.{eqb-false, not-true}
+use Rattle.refusal.specs.Refusal.{NONE, DRAWS, LAST-LEVEL, unless, _then_}
+use Rattle.cutter_state.specs.declared.Cutter.{Cutter}
+use Rattle.cutter_state.specs.WellFormed.{MAX-LEVEL, refusalOf, WellFormed}
+use Rattle.cutter_state.proofs.Facts.{facts, none-well-formed}
+use Rattle.cutter_rules.specs.Level.{creaturesOf, drawsOk}
+use Rattle.cutter_pass.specs.Pass.{levelDue, levelRefusal, passRefusal, NextLevel}
+
+then-none : (n k : ℕ) → (n then k) ≡ NONE → (n ≡ NONE) × (k ≡ NONE)
+then-none zero k e = (refl, e)
+then-none (suc n) k e = absurd (omega arith)
+
+unless-none : (b : Bool) (n : ℕ) → 0 < n → unless b n ≡ NONE → b ≡ true
+unless-none true n h e = refl
+unless-none false n h e = absurd (omega arith)
+
+pub accepted : (c : Cutter) → refusalOf c ≡ NONE → WellFormed c
+accepted c e = facts c (none-well-formed c e)
+
+due-level : (c : Cutter) → c .dead ≡ false → c .«won_level» ≡ true → levelDue c ≡ true
+unfolding levelDue
+due-level c d w = rw (d, w)
+
+module _ (c : Cutter) (draws : List ℕ) (e : passRefusal c draws ≡ NONE) where
+  abbrev rest : Bool → ℕ
+  rest due = cond due (levelRefusal c draws) (unless (eqb (length draws) 0) DRAWS)
+
+  parts : (refusalOf c ≡ NONE) × (rest (levelDue c) ≡ NONE)
+  unfolding passRefusal
+  parts = then-none (refusalOf c) (rest (levelDue c)) e
+
+  pub pass-state : WellFormed c
+  pass-state = accepted c (parts .0)
+
+  next-level : levelRefusal c draws ≡ NONE → NextLevel c draws
+  unfolding levelRefusal
+  next-level l =
+      let below = not (eqb (c .level) MAX-LEVEL) in
+      let fit = drawsOk draws (creaturesOf (c .level + 1)) in
+      let t = then-none (unless below LAST-LEVEL) (unless fit DRAWS) l in
+      let n = eqb-false (c .level) MAX-LEVEL (not-true (eqb (c .level) MAX-LEVEL) (unless-none below LAST-LEVEL (omega arith) (t .0))) in
+      record {
+        below = omega (arith, pass-state .level .1, n);
+        fit = unless-none fit DRAWS (omega arith) (t .1);
+      }
+
+  pub pass-level : c .dead ≡ false → c .«won_level» ≡ true → NextLevel c draws
+  pass-level d w = next-level (ap rest (sym (due-level c d w)) ∙ parts .1)

@@ -1,0 +1,54 @@
+-- `cutter_pass::press` meets its contract. Assumes nothing.
+use borrow.Author.Needs.{needs}
+use borrow.Author.Tests.{ne-eqb}
+use Rattle.cutter_pass.specs.Pass.{keyed}
+use Rattle.cutter_pass.proofs.press.Statement.{statement}
+use Rattle.cutter_pass.proofs.press.Tie as tie
+
+direction-requires : tie.Need-direction-requires
+direction-requires c κs = search needs
+
+direction-requires-2 : tie.Need-direction-requires-2
+direction-requires-2 c κs = search needs
+
+direction-requires-3 : tie.Need-direction-requires-3
+direction-requires-3 c κs = search needs
+
+direction-requires-4 : tie.Need-direction-requires-4
+direction-requires-4 c κs = search needs
+
+returns : tie.Need-returns
+unfolding keyed
+returns c = rw (c .before .match .keys1) (c .«direction» .ensures)
+
+returns-2 : tie.Need-returns-2
+unfolding keyed
+returns-2 c = rw (c .before .match .keys2) (c .«direction2» .ensures)
+
+returns-3 : tie.Need-returns-3
+unfolding keyed
+returns-3 c = rw (c .before .match .keys3) (c .«direction3» .ensures)
+
+returns-4 : tie.Need-returns-4
+unfolding keyed
+returns-4 c = rw (c .before .match .keys4) (c .«direction4» .ensures)
+
+returns-5 : tie.Need-returns-5
+unfolding keyed
+returns-5 c =
+    let r = c .match .rest in
+    simp (ne-eqb _ _ (r .0 .0 .0 .1), ne-eqb _ _ (r .0 .0 .1), ne-eqb _ _ (r .0 .1), ne-eqb _ _ (r .1))
+
+pub press-spec : {M : Type 1} → statement M
+press-spec =
+    tie.close
+    (tie.spec
+    direction-requires
+    direction-requires-2
+    direction-requires-3
+    direction-requires-4
+    returns
+    returns-2
+    returns-3
+    returns-4
+    returns-5)

@@ -1,0 +1,90 @@
+-- `cutter_pass::refusal_of` meets its contract. Assumes nothing.
+use mathlib.Core.Bool.{true, false}
+use mathlib.Core.Path.{_≡_, sym, _∙_, ap}
+use Prim.Native.Nat.{_+_}
+use native.Mathlib.Omega.{arith}
+use borrow.Author.Needs.{needs}
+use borrow.Author.Tests.{eq-eqb, ne-eqb}
+use Rattle.refusal.proofs.Calls.{then-first}
+use Rattle.cutter_state.specs.WellFormed.{MAX-LEVEL, refusalOf}
+use Rattle.cutter_rules.specs.Level.{creaturesOf, drawsOk}
+use Rattle.cutter_pass.specs.Pass.{levelRefusal, passRefusal}
+use Rattle.cutter_pass.proofs.Refused.{accepted}
+use Rattle.cutter_pass.proofs.refusal_of.Statement.{statement}
+use Rattle.cutter_pass.proofs.refusal_of.Tie as tie
+
+check-requires : tie.Need-check-requires
+check-requires c κs = search needs
+
+returns : tie.Need-returns
+unfolding passRefusal
+returns c = let e = c .before .check .ensures in e ∙ sym (then-first (refusalOf (c .before .before .before .args .c)) _ (λ z. c .if1 .taken (e ∙ z)))
+
+level-due-requires : tie.Need-level-due-requires
+level-due-requires c κs = search needs
+
+returns-2 : tie.Need-returns-2
+unfolding passRefusal levelRefusal
+returns-2 c =
+    let l = c .before .before .before in
+    rw (sym (l .before .before .check .ensures) ∙ l .before .if1 .left, sym (l .«level-due» .ensures) ∙ c .before .before .if2 .taken, eq-eqb _ MAX-LEVEL (c .if3 .taken))
+
+add-creatures-of : tie.Need-add-creatures-of
+add-creatures-of c =
+    let l = c .before .before .before .before in
+    let w = accepted (l .before .before .before .before .args .c) (sym (l .before .before .check .ensures) ∙ l .before .if1 .left) in
+    omega (arith, w .level .1)
+
+creatures-of-requires : tie.Need-creatures-of-requires
+creatures-of-requires c κs = search needs
+
+draws-ok-requires : tie.Need-draws-ok-requires
+draws-ok-requires c κs = search needs
+
+returns-3 : tie.Need-returns-3
+unfolding passRefusal levelRefusal
+returns-3 c =
+    let d = c .before in
+    let f = d .before .before .before in
+    let l = f .before .before .before in
+    let a = l .before .before .before .before .args in
+    let ok : drawsOk (a .draws .now) (creaturesOf (a .c .level + 1)) ≡ true = ap (drawsOk (a .draws .now)) (sym (d .before .«creatures-of» .ensures)) ∙ sym (d .«draws-ok» .ensures) ∙ c .if4 .taken in
+    rw (sym (l .before .before .check .ensures) ∙ l .before .if1 .left, sym (l .«level-due» .ensures) ∙ f .before .before .if2 .taken, ne-eqb _ MAX-LEVEL (f .if3 .left), ok)
+
+returns-4 : tie.Need-returns-4
+unfolding passRefusal levelRefusal
+returns-4 c =
+    let d = c .before in
+    let f = d .before .before .before in
+    let l = f .before .before .before in
+    let a = l .before .before .before .before .args in
+    let no : drawsOk (a .draws .now) (creaturesOf (a .c .level + 1)) ≡ false = ap (drawsOk (a .draws .now)) (sym (d .before .«creatures-of» .ensures)) ∙ sym (d .«draws-ok» .ensures) ∙ c .if4 .left in
+    rw (sym (l .before .before .check .ensures) ∙ l .before .if1 .left, sym (l .«level-due» .ensures) ∙ f .before .before .if2 .taken, ne-eqb _ MAX-LEVEL (f .if3 .left), no)
+
+returns-5 : tie.Need-returns-5
+unfolding passRefusal
+returns-5 c =
+    let l = c .before .before in
+    rw (sym (l .before .before .check .ensures) ∙ l .before .if1 .left, sym (l .«level-due» .ensures) ∙ c .before .if2 .left, eq-eqb _ 0 (c .if5 .taken))
+
+returns-6 : tie.Need-returns-6
+unfolding passRefusal
+returns-6 c =
+    let l = c .before .before in
+    rw (sym (l .before .before .check .ensures) ∙ l .before .if1 .left, sym (l .«level-due» .ensures) ∙ c .before .if2 .left, ne-eqb _ 0 (c .if5 .left))
+
+pub refusal-of-spec : {M : Type 1} → statement M
+refusal-of-spec =
+    tie.close
+    (tie.spec
+    check-requires
+    returns
+    level-due-requires
+    returns-2
+    add-creatures-of
+    creatures-of-requires
+    draws-ok-requires
+    returns-3
+    returns-4
+    returns-5
+    returns-6)

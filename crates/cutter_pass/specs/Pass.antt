@@ -1,0 +1,137 @@
+-- Document 01, 'One pass, and the pacing record': one turn of Block Cutter's loop, on the numbers of the record.
+use mathlib.Core.Bool.{Bool, true, false, cond, not, _&&_}
+use mathlib.Core.List.{List, [], _∷_}
+use mathlib.Core.Path.{_≡_}
+use Prim.Native.Nat.{ℕ, _+_, _-_, _*_, _/_, _<_}
+use lib.Dec.{eqb, ltb}
+use lib.ListN.{length}
+use Rattle.refusal.specs.Refusal.{NONE, DRAWS, LAST-LEVEL, unless, _then_, refusedOr}
+use Rattle.answer.specs.declared.Answer.{Answer}
+use Rattle.answer.specs.declared.Answer.the-variants.{GoingOn, Over, Quit}
+use Rattle.pace.specs.declared.Pace.{Pace}
+use Rattle.pace.specs.declared.Ticks.{Ticks}
+use Rattle.pace.specs.Pace.{ticked}
+use Rattle.cutter_state.specs.declared.Cutter.{Cutter}
+use Rattle.cutter_state.specs.Change.{withLevel, withLives, withDead, withWon}
+use Rattle.cutter_state.specs.WellFormed.{MAX-LEVEL, refusalOf}
+use Rattle.cutter_rules.specs.Level.{creaturesOf, drawsOk, freshLevel}
+use Rattle.cutter_rules.specs.Step.{UP, RIGHT, DOWN, LEFT, directed, stepped, respawned}
+use Rattle.cutter_rules.specs.Tick.{enemiesStepped}
+use Rattle.cutter_keeps.specs.Kept.{INNER, blackIn}
+use Rattle.cutter_pass.specs.declared.Played.{Played}
+use Rattle.cutter_pass.specs.declared.CutterTurn.{CutterTurn}
+
+-- step 2,400,000, creatures 4,000,000
+abbrev pub CUT-MOVE-CYCLES : ℕ
+CUT-MOVE-CYCLES = 2400000
+
+abbrev pub CUT-ENEMY-CYCLES : ℕ
+CUT-ENEMY-CYCLES = 4000000
+
+-- 465: a quarter of the 1,860 cells inside the ring
+abbrev pub CLEAR-BLACK-PCT : ℕ
+CLEAR-BLACK-PCT = 25
+
+abbrev pub CLEAR-BELOW : ℕ
+CLEAR-BELOW = INNER * CLEAR-BLACK-PCT / 100
+
+abbrev pub KEY-QUIT : ℕ
+KEY-QUIT = 10
+
+-- ---- what is refused
+
+-- a new level is due: won, and not dead, which comes first
+unfoldable pub levelDue : Cutter → Bool
+levelDue c = not (c .dead) && c .«won_level»
+
+-- 8 where the level is 65,535; then 7 for draws that are not those of level n, the old level plus 1
+unfoldable pub levelRefusal : Cutter → List ℕ → ℕ
+levelRefusal c draws =
+    unless (not (eqb (c .level) MAX-LEVEL)) LAST-LEVEL
+    then unless (drawsOk draws (creaturesOf (c .level + 1))) DRAWS
+
+-- after the state's own refusals; 7 for any draws in other passes
+unfoldable pub passRefusal : Cutter → List ℕ → ℕ
+passRefusal c draws =
+    refusalOf c then cond (levelDue c) (levelRefusal c draws) (unless (eqb (length draws) 0) DRAWS)
+
+-- ---- dead, and level won
+
+-- flag cleared, one life less (never below 0)
+unfoldable pub hurt : Cutter → Cutter
+hurt c = withLives (withDead c false) (c .lives - 1)
+
+-- flag cleared, level up, fresh level
+unfoldable pub nextLevel : Cutter → List ℕ → Cutter
+nextLevel c draws = freshLevel (withLevel (withWon c false) (c .level + 1)) draws
+
+-- ---- keys
+
+-- 5, 8, 7, 9 are up, down, left, right; others are ignored
+unfoldable pub keyed : Cutter → ℕ → Cutter
+keyed c key =
+    cond (eqb key 5) (directed c UP)
+    (cond (eqb key 8) (directed c DOWN)
+    (cond (eqb key 7) (directed c LEFT)
+    (cond (eqb key 9) (directed c RIGHT) c)))
+
+-- all keys in order; 10 quits at once, earlier keys standing
+unfoldable pub played : Cutter → List ℕ → Played
+played c [] = record { quit = false; game = c }
+played c (key ∷ keys) = cond (eqb key KEY-QUIT) (record { quit = true; game = c }) (played (keyed c key) keys)
+
+-- ---- ticks
+
+-- black below 465 sets won
+unfoldable pub scored : Cutter → Cutter
+scored c = cond (ltb (blackIn c) CLEAR-BELOW) (withWon c true) c
+
+-- after the step, and only then
+abbrev pub moved : Cutter → Cutter
+moved c = scored (stepped c)
+
+-- step if due; then creatures if due
+abbrev pub paced : Cutter → Ticks → Cutter
+paced c due =
+    let after : Cutter = cond (due .one) (moved c) c in
+    cond (due .two) (enemiesStepped after) after
+
+-- ---- the pass
+
+module _ (first second : ℕ) where
+  -- the record as it was
+  abbrev pub still : ℕ → Answer → Cutter → CutterTurn
+  still refusal answer c = record { first = first; second = second; passed = record { refusal = refusal; answer = answer; game = c } }
+
+  -- over at 0 lives, else respawn, end of pass
+  unfoldable pub afterDeath : Cutter → CutterTurn
+  afterDeath c = cond (eqb (hurt c .lives) 0) (still NONE Over (hurt c)) (still NONE GoingOn (respawned (hurt c)))
+
+  -- quit: no ticks; else both ticks of the reading
+  unfoldable pub afterKeys : ℕ → Played → CutterTurn
+  afterKeys time p =
+      let due : Ticks = ticked time first second CUT-MOVE-CYCLES CUT-ENEMY-CYCLES in
+      cond (p .quit) (still NONE Quit (p .game))
+      (record { first = due .first; second = due .second; passed = record { refusal = NONE; answer = GoingOn; game = paced (p .game) due } })
+
+  -- dead first; else level won; else the keys
+  unfoldable pub passOn : Cutter → List ℕ → List ℕ → ℕ → CutterTurn
+  passOn c keys draws time =
+      cond (c .dead) (afterDeath c)
+      (cond (c .«won_level») (still NONE GoingOn (nextLevel c draws)) (afterKeys time (played c keys)))
+
+-- a refused pass leaves state and record, and answers going on
+unfoldable pub passAt : Cutter → List ℕ → List ℕ → ℕ → ℕ → ℕ → CutterTurn
+passAt c keys draws time first second =
+    refusedOr (passRefusal c draws) (λ n. still first second n GoingOn c) (passOn first second c keys draws time)
+
+-- the record after
+abbrev pub marksOf : CutterTurn → Pace
+marksOf t = record { first = t .first; second = t .second }
+
+-- ---- what the code is handed
+
+-- a next level, and its draws
+pub record NextLevel (c : Cutter) (draws : List ℕ) : Type 0 where
+  pub below : c .level < MAX-LEVEL
+  pub fit : drawsOk draws (creaturesOf (c .level + 1)) ≡ true
