@@ -2,15 +2,15 @@
 use mathlib.Core.Bool.{Bool, true, false, cond, true≢false}
 use mathlib.Core.List.{List, [], _∷_}
 use mathlib.Core.Path.{_≡_, refl, sym, _∙_, ap}
-use Prim.Native.Nat.{ℕ, suc, _+_, _-_, _*_, _/_, _%_, _≤_, _<_}
+use Prim.Native.Nat.{ℕ, suc, _+_, _-_, _/_, _%_, _≤_, _<_}
 use native.Mathlib.Omega.{arith}
 use lib.Dec.{eqb}
 use lib.ListN.{length, getD}
 use borrow.Author.Tests.{eqb-true, eq-eqb}
 use Rattle.laws.specs.Lists.{count, tally}
-use Rattle.ground.specs.Cells.{CW, CH, CN, CB-BLACK, CB-FILLED, cellAt}
+use Rattle.ground.specs.Cells.{CW, CN, CB-BLACK, CB-FILLED, cellAt}
 use Rattle.cutter_state.specs.declared.Cutter.{Cutter}
-use Rattle.cutter_state.specs.State.{place, Inside}
+use Rattle.cutter_state.specs.State.{place}
 use Rattle.cutter_state.specs.WellFormed.{WellFormed}
 use Rattle.cutter_state.proofs.Ring.{inside-ring}
 use Rattle.cutter_rules.specs.Level.{freshGrid}

@@ -7,7 +7,7 @@ use Rattle.cutter_state.specs.declared.Cutter.{Cutter}
 use Rattle.cutter_state.specs.Change.{withLevel, withLives}
 use Rattle.cutter_state.specs.WellFormed.{MAX-LIVES}
 use Rattle.cutter_rules.specs.Level.{creaturesOf, drawsOk, freshLevel}
-use Rattle.cutter.specs.Calls.{zeros, FIRST-LEVEL, refused, answered, roundCall}
+use Rattle.cutter.specs.Calls.{FIRST-LEVEL, refused, answered, roundCall}
 use Rattle.cutter.proofs.calls.new_round.Statement.{statement}
 use Rattle.cutter.proofs.calls.new_round.Tie as tie
 
