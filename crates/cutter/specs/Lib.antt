@@ -1,3 +1,4 @@
 pub mod Calls
 pub mod Picture
 pub mod Question
+pub mod Turn

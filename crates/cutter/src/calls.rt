@@ -1,4 +1,5 @@
 // The calls on a state: each checks it once, and refuses it or plays.
+use cutter_pass::INTERIOR;
 use cutter_rules::LEFT;
 use cutter_rules::creatures_of;
 use cutter_rules::draws_ok;
@@ -7,9 +8,7 @@ use cutter_state::MAX_LIVES;
 use cutter_state::check;
 use ground::CB_FILLED;
 use ground::CB_TRAIL;
-use ground::CH;
 use ground::CN;
-use ground::CW;
 use ground::MAX_ENEMIES;
 use ground::Mover;
 use ground::black_count;
@@ -38,9 +37,6 @@ pub struct Ground {
 
 // A round starts at this level.
 const FIRST_LEVEL: u32 = 1;
-
-// The cells inside the ring.
-const INTERIOR: usize = (CW - 2) * (CH - 2);
 
 fn no_state() -> Cutter
     ensures { λ r. ⌜ r ≡ zeros ⌝ }

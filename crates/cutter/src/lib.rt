@@ -2,6 +2,7 @@
 mod calls;
 mod picture;
 mod question;
+mod turn;
 
 pub use calls::CutterAnswer;
 pub use calls::Ground;
@@ -15,3 +16,5 @@ pub use calls::step_player;
 pub use picture::render;
 pub use question::who;
 pub use question::who_of;
+pub use turn::pass;
+pub use turn::pass_marks;
