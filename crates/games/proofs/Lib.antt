@@ -3,5 +3,6 @@ pub mod MineAccounts
 pub mod Tight
 pub mod Cut
 pub mod Cases
+pub mod CutterCalls
 pub mod CutterAccounts
 pub mod WrongPorts

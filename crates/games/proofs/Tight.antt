@@ -9,7 +9,9 @@ use Rattle.mine.specs.Calls.{moveCall, gravityCall, tickCall}
 use Rattle.mine.specs.Turn.{passOf}
 use Rattle.mine.specs.Picture.{pictureOf}
 use Rattle.mine.specs.Question.{whoAt}
+use Rattle.cutter_pass.specs.Pass as CP
 use Rattle.cutter.specs.Calls.{roundCall, levelCall, directionCall, stepCall, enemiesCall, respawnCall, reportCall}
+use Rattle.cutter.specs.Turn as T
 use Rattle.cutter.specs.Picture as P
 use Rattle.cutter.specs.Question as C
 use Rattle.games.specs.Tight.{Determined, MineTight, CutterTight, Tight}
@@ -40,6 +42,8 @@ cutter-tight =
       step-player = λ c. determined (stepCall c);
       step-enemies = λ c. determined (enemiesCall c);
       respawn = λ c. determined (respawnCall c);
+      pass = λ c keys draws time pace. determined (T.passOf c keys draws time pace);
+      pass-marks = λ c keys draws time first second. determined (CP.passAt c keys draws time first second);
       render = λ c frame. determined (P.pictureOf c frame);
       ground-report = λ c. determined (reportCall c);
       who = λ list x y. determined (C.whoAt list x y);

@@ -18,7 +18,7 @@ use Rattle.cutter_keeps.specs.Kept.{claimedIn}
 use Rattle.cutter.specs.declared.calls.CutterAnswer.{CutterAnswer}
 use Rattle.games.specs.WrongPorts.{Keeps, Wrong, WrongPorts}
 use Rattle.games.proofs.MineCalls.{moveCall-kept}
-use Rattle.games.proofs.CutterAccounts.{step-called}
+use Rattle.games.proofs.CutterCalls.{step-called}
 
 -- to the right where the state is not refused
 goes : (m : Mine) → refusalOf m ≡ NONE → moveCall m RIGHT ≡ answered (moved m RIGHT)

@@ -16,7 +16,9 @@ use Rattle.mine.specs.Picture.{pictureOf}
 use Rattle.mine.specs.Question.{whoAt}
 use Rattle.ground.specs.declared.Mover.{Mover}
 use Rattle.cutter_state.specs.declared.Cutter.{Cutter}
+use Rattle.cutter_pass.specs.Pass as CP
 use Rattle.cutter.specs.Calls.{roundCall, levelCall, directionCall, stepCall, enemiesCall, respawnCall, reportCall}
+use Rattle.cutter.specs.Turn as T
 use Rattle.cutter.specs.Picture as P
 use Rattle.cutter.specs.Question as C
 
@@ -44,6 +46,8 @@ pub record CutterTight : Type 0 where
   pub step-player : (c : Cutter) → Determined (stepCall c)
   pub step-enemies : (c : Cutter) → Determined (enemiesCall c)
   pub respawn : (c : Cutter) → Determined (respawnCall c)
+  pub pass : (c : Cutter) (keys draws : List ℕ) (time : ℕ) (pace : Pace) → Determined (T.passOf c keys draws time pace)
+  pub pass-marks : (c : Cutter) (keys draws : List ℕ) (time first second : ℕ) → Determined (CP.passAt c keys draws time first second)
   pub render : (c : Cutter) (frame : List ℕ) → Determined (P.pictureOf c frame)
   pub ground-report : (c : Cutter) → Determined (reportCall c)
   pub who : (list : List Mover) (x y : ℕ) → Determined (C.whoAt list x y)
