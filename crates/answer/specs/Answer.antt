@@ -1,8 +1,40 @@
--- The answer of a pass: document 01's word for each case, and its number.
-use Prim.Native.Nat.{ℕ}
+-- What a pass answers: document 01's words, their numbers, and the enum's case for each.
+use Prim.Native.Nat.{ℕ, zero, suc}
 use Prim.Native.String.{String}
 use Rattle.answer.specs.declared.Answer.{Answer}
 use Rattle.answer.specs.declared.Answer.the-variants.{GoingOn, Won, Dead, Over, Quit}
+
+-- going on, won, dead, over, quit
+abbrev pub GOING-ON : ℕ
+GOING-ON = 0
+
+abbrev pub WON : ℕ
+WON = 1
+
+abbrev pub DEAD : ℕ
+DEAD = 2
+
+abbrev pub OVER : ℕ
+OVER = 3
+
+abbrev pub QUIT : ℕ
+QUIT = 4
+
+-- the answer of a number, as the promises give it
+abbrev pub answerOf : ℕ → Answer
+answerOf zero = GoingOn
+answerOf (suc zero) = Won
+answerOf (suc (suc zero)) = Dead
+answerOf (suc (suc (suc zero))) = Over
+answerOf (suc (suc (suc (suc n)))) = Quit
+
+-- the number of an answer, and its word
+abbrev pub numberOf : Answer → ℕ
+numberOf GoingOn = GOING-ON
+numberOf Won = WON
+numberOf Dead = DEAD
+numberOf Over = OVER
+numberOf Quit = QUIT
 
 abbrev pub wordOf : Answer → String
 wordOf GoingOn = "going on"
@@ -10,10 +42,3 @@ wordOf Won = "won"
 wordOf Dead = "dead"
 wordOf Over = "over"
 wordOf Quit = "quit"
-
-abbrev pub numberOf : Answer → ℕ
-numberOf GoingOn = 0
-numberOf Won = 1
-numberOf Dead = 2
-numberOf Over = 3
-numberOf Quit = 4
