@@ -33,7 +33,7 @@ use Rattle.cutter_pass.proofs.Refused.{accepted, pass-state, pass-level}
 use Rattle.cutter_pass.proofs.Accounts.{pass-accounts, pass-fresh, pass-formed}
 use Rattle.cutter.specs.declared.calls.CutterAnswer.{CutterAnswer}
 use Rattle.cutter.specs.Calls.{refused, answered, zeros, FIRST-LEVEL, roundCall, levelCall, directionCall, stepCall, enemiesCall, respawnCall}
-use Rattle.games.specs.CutterAccounts.{Formed, PassFormed}
+use Rattle.games.specs.CutterAccounts.{Formed}
 use Rattle.games.proofs.MineCalls.{first-none}
 
 -- two checks that give no number: the second gives none
@@ -155,9 +155,9 @@ module _ (c : Cutter) (keys draws : List ℕ) (time first second : ℕ) where
       (λ n some e. absurd (some (eqb-true n NONE (and-left (eqb n NONE) (levelDue c) e))))
       (λ e. rw on-none (on-fresh e))
 
-  pub passAt-formed : PassFormed (t .passed)
+  pub passAt-formed : Goes t → WellFormed (t .passed .game)
   passAt-formed =
-      by-pass (λ (t : CutterTurn). PassFormed (t .passed)) (λ n some none. absurd (some none)) (λ e _. pass-formed first second c keys draws time e)
+      by-pass (λ (t : CutterTurn). Goes t → WellFormed (t .passed .game)) (λ n some none. absurd (some none)) (λ e _. pass-formed first second c keys draws time e)
 
 -- ---- an answered state is well formed
 

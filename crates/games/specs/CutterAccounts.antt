@@ -1,5 +1,4 @@
--- Block Cutter's accounts from a fresh level: claimed cells and creatures over any list of public calls, with any arguments, refused ones
--- too, of which none starts a level.
+-- Block Cutter's accounts: claimed cells and creatures over any list of public calls, with any arguments, refused ones too, none starting a level.
 use mathlib.Core.Bool.{true}
 use mathlib.Core.List.{List}
 use mathlib.Core.Path.{_≡_}
@@ -10,7 +9,6 @@ use Rattle.cutter_state.specs.declared.Cutter.{Cutter}
 use Rattle.cutter_state.specs.WellFormed.{WellFormed}
 use Rattle.cutter_keeps.specs.Kept.{claimedIn, Fresh}
 use Rattle.cutter_keeps.specs.Steps.{Accounts}
-use Rattle.cutter_pass.specs.declared.CutterPassed.{CutterPassed}
 use Rattle.cutter_pass.specs.Pass.{passAt}
 use Rattle.cutter.specs.declared.calls.CutterAnswer.{CutterAnswer}
 use Rattle.cutter.specs.Calls.{roundCall, levelCall, directionCall, stepCall, enemiesCall, respawnCall}
@@ -32,9 +30,6 @@ pub record CutterAccounts : Type 0 where
 abbrev pub Formed : CutterAnswer → Type 0
 Formed a = a .refusal ≡ NONE → WellFormed (a .game)
 
-abbrev pub PassFormed : CutterPassed → Type 0
-PassFormed a = a .refusal ≡ NONE → WellFormed (a .game)
-
 pub record CutterFormed : Type 0 where
   pub round : (draws : List ℕ) → Formed (roundCall draws)
   pub level : (c : Cutter) (draws : List ℕ) → Formed (levelCall c draws)
@@ -42,5 +37,5 @@ pub record CutterFormed : Type 0 where
   pub step : (c : Cutter) → Formed (stepCall c)
   pub tick : (c : Cutter) → Formed (enemiesCall c)
   pub respawn : (c : Cutter) → Formed (respawnCall c)
-  pub pass : (c : Cutter) (keys draws : List ℕ) (time : ℕ) (pace : Pace) → PassFormed (passOf c keys draws time pace .0)
-  pub passMarks : (c : Cutter) (keys draws : List ℕ) (time first second : ℕ) → PassFormed (passAt c keys draws time first second .passed)
+  pub pass : (c : Cutter) (keys draws : List ℕ) (time : ℕ) (pace : Pace) → passOf c keys draws time pace .0 .refusal ≡ NONE → WellFormed (passOf c keys draws time pace .0 .game)
+  pub passMarks : (c : Cutter) (keys draws : List ℕ) (time first second : ℕ) → passAt c keys draws time first second .passed .refusal ≡ NONE → WellFormed (passAt c keys draws time first second .passed .game)
