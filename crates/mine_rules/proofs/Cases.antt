@@ -3,9 +3,10 @@ use mathlib.Core.Path.{refl}
 use Rattle.mine_state.specs.State.{emptyAt, freeAt}
 use Rattle.mine_state.specs.WellFormed.{cellsOk, creaturesOk, numbersOk, wellFormed}
 use Rattle.mine_rules.specs.Ways.{nextCell}
-use Rattle.mine_rules.specs.Move.{met, moved}
+use Rattle.mine_rules.specs.Move.{pushed, met, moved}
 use Rattle.mine_rules.specs.Gravity.{carried, rested, without, overPlayer, overCreature, overEmpty, rolled, overOther, cellFall, rowFall, gravityOf}
-use Rattle.mine_rules.specs.Cases.{P4, P5, P6, Sides, Rest, P7, P8}
+use Rattle.mine_rules.specs.Tick.{wayOf, tickOne, ticked}
+use Rattle.mine_rules.specs.Cases.{P4, P5, P6, Sides, Rest, P7, Push, Exit, P8, Turns, Catch}
 
 pub p4 : P4
 unfolding wellFormed cellsOk creaturesOk numbersOk emptyAt freeAt carried rested without overPlayer overCreature overEmpty rolled overOther cellFall rowFall gravityOf
@@ -31,6 +32,22 @@ pub p7 : P7
 unfolding wellFormed cellsOk creaturesOk numbersOk emptyAt nextCell met moved
 p7 = record { right = refl; stays = refl }
 
+pub push : Push
+unfolding wellFormed cellsOk creaturesOk numbersOk emptyAt freeAt nextCell pushed met moved
+push = record { right = refl; stays = refl }
+
+pub exit : Exit
+unfolding wellFormed cellsOk creaturesOk numbersOk emptyAt nextCell met moved
+exit = record { right = refl; short = refl; reached = refl }
+
 pub p8 : P8
 unfolding wellFormed cellsOk creaturesOk numbersOk emptyAt freeAt carried rested without overPlayer overCreature overEmpty rolled overOther cellFall rowFall gravityOf
 p8 = record { right = refl; left = refl; two = refl }
+
+pub turns : Turns
+unfolding wellFormed cellsOk creaturesOk numbersOk emptyAt nextCell wayOf tickOne ticked
+turns = record { right = refl; left = refl; ahead = refl; other = refl; back = refl; stays = refl }
+
+pub catch : Catch
+unfolding wellFormed cellsOk creaturesOk numbersOk emptyAt nextCell wayOf tickOne ticked
+catch = record { right = refl; both = refl }

@@ -1,4 +1,4 @@
--- P4 to P8 of document 01, on small mines.
+-- P4 to P8 of document 01 and cases of its other sentences, on small mines.
 use mathlib.Core.Bool.{true, false}
 use mathlib.Core.List.{_∷_}
 use mathlib.Core.Path.{_≡_}
@@ -6,12 +6,13 @@ use Prim.Native.Nat.{ℕ}
 use lib.ListN.{set, replicate}
 use Rattle.mine_state.specs.declared.Mine.{Mine}
 use Rattle.mine_state.specs.declared.Enemy.{Enemy}
-use Rattle.mine_state.specs.State.{AREA, MAX-ENEMIES, EMPTY, WALL, BOULDER, COIN, place, blankSlot}
-use Rattle.mine_state.specs.Change.{withMarks, withPlayer, withCell, withCreatures, withCoins, killed}
+use Rattle.mine_state.specs.State.{AREA, MAX-ENEMIES, EMPTY, WALL, BOULDER, COIN, EXIT, place, blankSlot}
+use Rattle.mine_state.specs.Change.{withMarks, withPlayer, withCell, withCreatures, withCoins, killed, winner}
 use Rattle.mine_state.specs.WellFormed.{wellFormed}
-use Rattle.mine_rules.specs.Ways.{RIGHT}
+use Rattle.mine_rules.specs.Ways.{UP, RIGHT, DOWN, LEFT}
 use Rattle.mine_rules.specs.Move.{moved}
 use Rattle.mine_rules.specs.Gravity.{gravityOf}
+use Rattle.mine_rules.specs.Tick.{ticked}
 
 -- an empty mine without creatures, the player at (1,1)
 abbrev pub bare : Mine
@@ -75,15 +76,37 @@ pub record P7 : Type 0 where
   pub right : wellFormed coinBeside ≡ true
   pub stays : moved coinBeside RIGHT ≡ withMark (withPlayer (withCoins bare 1) 5 5) 5 5
 
+-- a marked boulder at (5,5) beside the player
+abbrev pub boulderBeside : Mine
+boulderBeside = withMark (withPlayer (withCell bare 5 5 BOULDER) 4 5) 5 5
+
+-- pushed: the mark stays where it was
+pub record Push : Type 0 where
+  pub right : wellFormed boulderBeside ≡ true
+  pub stays : moved boulderBeside RIGHT ≡ withMark (withPlayer (withCell bare 6 5 BOULDER) 5 5) 5 5
+
+-- an exit at (5,5) beside the player, who needs one coin
+abbrev pub exitBeside : ℕ → Mine
+exitBeside coins = withCoins (withPlayer (withCell bare 5 5 EXIT) 4 5) coins
+
+-- won if coins reach needed, no move
+pub record Exit : Type 0 where
+  pub right : wellFormed (exitBeside 1) ≡ true
+  pub short : moved (exitBeside 0) RIGHT ≡ exitBeside 0
+  pub reached : moved (exitBeside 1) RIGHT ≡ winner (exitBeside 1)
+
+abbrev pub creature : ℕ → ℕ → ℕ → Enemy
+creature x y d = record { x = x; y = y; dir = d }
+
 -- a marked boulder at (5,5) over the first of three creatures
 abbrev pub creatureA : Enemy
-creatureA = record { x = 5; y = 6; dir = 1 }
+creatureA = creature 5 6 RIGHT
 
 abbrev pub creatureB : Enemy
-creatureB = record { x = 8; y = 3; dir = 2 }
+creatureB = creature 8 3 DOWN
 
 abbrev pub creatureC : Enemy
-creatureC = record { x = 9; y = 9; dir = 3 }
+creatureC = creature 9 9 LEFT
 
 abbrev pub withThree : Mine
 withThree = withMark (withCreatures (withCell bare 5 5 BOULDER) (creatureA ∷ creatureB ∷ creatureC ∷ replicate 5 blankSlot) 3) 5 5
@@ -93,3 +116,38 @@ pub record P8 : Type 0 where
   pub right : wellFormed withThree ≡ true
   pub left : gravityOf withThree .enemies ≡ creatureC ∷ creatureB ∷ replicate 6 blankSlot
   pub two : gravityOf withThree .count ≡ 2
+
+-- a wall at the left of (5,5), seen to the right; also ahead; also at the right; also behind
+abbrev pub wallLeft : Mine
+wallLeft = withCell bare 5 4 WALL
+
+abbrev pub wallAhead : Mine
+wallAhead = withCell wallLeft 6 5 WALL
+
+abbrev pub wallRight : Mine
+wallRight = withCell wallAhead 5 6 WALL
+
+abbrev pub wallBehind : Mine
+wallBehind = withCell wallRight 4 5 WALL
+
+-- a creature alone in a mine
+abbrev pub alone : Mine → Enemy → Mine
+alone m e = withCreatures m (e ∷ replicate 7 blankSlot) 1
+
+-- left, straight, right, back: the first that is empty; with no such cell nothing changes
+pub record Turns : Type 0 where
+  pub right : wellFormed (alone wallBehind (creature 5 5 RIGHT)) ≡ true
+  pub left : ticked (alone bare (creature 5 5 RIGHT)) ≡ alone bare (creature 5 4 UP)
+  pub ahead : ticked (alone wallLeft (creature 5 5 RIGHT)) ≡ alone wallLeft (creature 6 5 RIGHT)
+  pub other : ticked (alone wallAhead (creature 5 5 RIGHT)) ≡ alone wallAhead (creature 5 6 DOWN)
+  pub back : ticked (alone wallRight (creature 5 5 RIGHT)) ≡ alone wallRight (creature 4 5 LEFT)
+  pub stays : ticked (alone wallBehind (creature 5 5 RIGHT)) ≡ alone wallBehind (creature 5 5 RIGHT)
+
+-- the player at (1,1), and two creatures
+abbrev pub withTwo : Enemy → Enemy → Mine
+withTwo a b = withCreatures bare (a ∷ b ∷ replicate 6 blankSlot) 2
+
+-- the first reaches the player: dead; the tick goes on
+pub record Catch : Type 0 where
+  pub right : wellFormed (withTwo (creature 1 2 RIGHT) creatureB) ≡ true
+  pub both : ticked (withTwo (creature 1 2 RIGHT) creatureB) ≡ killed (withTwo (creature 1 1 UP) (creature 9 3 RIGHT))
