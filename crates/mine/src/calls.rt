@@ -17,7 +17,7 @@ pub struct MineAnswer {
 pub fn load() -> Mine
     ensures { λ r. ⌜ r ≡ loaded ⌝ }
 {
-    mine_rules::load()
+    mine_moves::load()
 }
 
 // A move: 0 up, 1 right, 2 down, 3 left.
@@ -39,7 +39,7 @@ pub fn step_player(m: Mine, dir: u8) -> MineAnswer
     }
     MineAnswer {
         refusal: refusal::NONE,
-        game: mine_rules::step_player(m, dir),
+        game: mine_moves::step_player(m, dir),
     }
 }
 
@@ -73,6 +73,6 @@ pub fn move_enemies(m: Mine) -> MineAnswer
     }
     MineAnswer {
         refusal: refusal::NONE,
-        game: mine_rules::move_enemies(m),
+        game: mine_moves::move_enemies(m),
     }
 }

@@ -15,8 +15,8 @@ use Rattle.mine_state.specs.State.{W, H, EMPTY, DIRT, WALL, BOULDER, COIN, EXIT
 use Rattle.mine_state.specs.Change.{entered, withCell, withCoins, withGrid}
 use Rattle.mine_state.specs.WellFormed.{WellFormed}
 use Rattle.mine_state.proofs.Facts.{sound}
-use Rattle.mine_rules.specs.declared.ways.Ahead.{Ahead}
-use Rattle.mine_rules.specs.declared.ways.Ahead.the-variants.{Cell, Off}
+use Rattle.mine_rules.specs.declared.Ahead.{Ahead}
+use Rattle.mine_rules.specs.declared.Ahead.the-variants.{Cell, Off}
 use Rattle.mine_rules.specs.Ways.{nextCell}
 use Rattle.mine_rules.specs.Move.{atExit, collected, pushedTo, pushed, sideways, met, meets, movedTo, moved}
 use Rattle.mine_rules.proofs.Next.{next-inside, home}

@@ -17,10 +17,10 @@ use Rattle.mine_state.specs.declared.Enemy.{Enemy}
 use Rattle.mine_state.specs.State.{emptyAt, playerAt, creatures, standsAt, firstAt, blankSlot}
 use Rattle.mine_state.specs.Change.{withCreature, killed}
 use Rattle.mine_state.specs.WellFormed.{WellFormed, creatureOk}
-use Rattle.mine_rules.specs.declared.ways.Ahead.{Ahead}
-use Rattle.mine_rules.specs.declared.ways.Ahead.the-variants.{Cell, Off}
-use Rattle.mine_rules.specs.declared.ticks.Step.{Step}
-use Rattle.mine_rules.specs.declared.ticks.Step.the-variants.{Goes, Stays}
+use Rattle.mine_rules.specs.declared.Ahead.{Ahead}
+use Rattle.mine_rules.specs.declared.Ahead.the-variants.{Cell, Off}
+use Rattle.mine_rules.specs.declared.Step.{Step}
+use Rattle.mine_rules.specs.declared.Step.the-variants.{Goes, Stays}
 use Rattle.mine_rules.specs.Ways.{nextCell}
 use Rattle.mine_rules.specs.Tick.{goesTo, wayOf, turns, orElse, chosen, caught, stepped, tickOne, ticked}
 use Rattle.mine_keeps.specs.Kept.{Kept}

@@ -1,12 +1,12 @@
 // One turn of Block Mine's loop: what is left of it when keys, clock and record are numbers.
 use answer::Answer;
 use mine_fall::gravity;
+use mine_moves::move_enemies;
+use mine_moves::step_player;
 use mine_rules::DOWN;
 use mine_rules::LEFT;
 use mine_rules::RIGHT;
 use mine_rules::UP;
-use mine_rules::move_enemies;
-use mine_rules::step_player;
 use mine_state::Mine;
 use mine_state::check;
 use pace::both_ticks;

@@ -1,6 +1,4 @@
 pub mod Next
-pub mod Turns
-pub mod Reading
 pub mod Start
 pub mod GravityKeeps
 pub mod GravitySound

@@ -9,8 +9,8 @@ use Rattle.laws.proofs.Choice.{cond-both}
 use Rattle.mine_state.specs.State.{W, H}
 use Rattle.mine_state.specs.declared.Mine.{Mine}
 use Rattle.mine_state.specs.WellFormed.{Sound}
-use Rattle.mine_rules.specs.declared.ways.Ahead.{Ahead}
-use Rattle.mine_rules.specs.declared.ways.Ahead.the-variants.{Cell, Off}
+use Rattle.mine_rules.specs.declared.Ahead.{Ahead}
+use Rattle.mine_rules.specs.declared.Ahead.the-variants.{Cell, Off}
 use Rattle.mine_rules.specs.Ways.{UP, RIGHT, DOWN, cellIf, nextCell, OnGrid}
 
 abbrev Inside : Ahead → Type 0

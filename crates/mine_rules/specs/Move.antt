@@ -7,10 +7,9 @@ use Rattle.found.specs.declared.Found.the-variants.{At, Nobody}
 use Rattle.mine_state.specs.declared.Mine.{Mine}
 use Rattle.mine_state.specs.State.{EMPTY, DIRT, WALL, BOULDER, COIN, EXIT, codeAt, firstAt, freeAt}
 use Rattle.mine_state.specs.Change.{entered, withCell, withCoins, killed, winner}
-use Rattle.mine_state.specs.WellFormed.{Sound}
-use Rattle.mine_rules.specs.declared.ways.Ahead.{Ahead}
-use Rattle.mine_rules.specs.declared.ways.Ahead.the-variants.{Cell, Off}
-use Rattle.mine_rules.specs.Ways.{RIGHT, LEFT, nextCell, OnGrid}
+use Rattle.mine_rules.specs.declared.Ahead.{Ahead}
+use Rattle.mine_rules.specs.declared.Ahead.the-variants.{Cell, Off}
+use Rattle.mine_rules.specs.Ways.{RIGHT, LEFT, nextCell}
 
 -- exit: won if coins reach needed, no move
 abbrev pub atExit : Mine → Mine
@@ -54,8 +53,3 @@ movedTo m d (Cell x y) = meets m d x y (firstAt m x y)
 
 unfoldable pub moved : Mine → ℕ → Mine
 moved m d = movedTo m d (nextCell d (m .px) (m .py))
-
--- what the steps of a move ask
-pub record Meets (m : Mine) (x y : ℕ) : Type 0 where
-  pub sound : Sound m
-  pub there : OnGrid x y

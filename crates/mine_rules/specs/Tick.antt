@@ -1,7 +1,6 @@
 -- Block Mine: the creature tick.
-use mathlib.Core.Bool.{true, cond, _&&_}
+use mathlib.Core.Bool.{cond, _&&_}
 use mathlib.Core.List.{List, [], _∷_}
-use mathlib.Core.Path.{_≡_}
 use Prim.Native.Nat.{ℕ, _+_, _%_}
 use lib.ListN.{getD}
 use Rattle.laws.specs.Lists.{across}
@@ -10,11 +9,10 @@ use Rattle.mine_state.specs.declared.Mine.{Mine}
 use Rattle.mine_state.specs.declared.Enemy.{Enemy}
 use Rattle.mine_state.specs.State.{emptyAt, firstAt, playerAt, blankSlot}
 use Rattle.mine_state.specs.Change.{withCreature, killed}
-use Rattle.mine_state.specs.Spots.{onMap, Lent, Spotted}
-use Rattle.mine_rules.specs.declared.ways.Ahead.{Ahead}
-use Rattle.mine_rules.specs.declared.ways.Ahead.the-variants.{Cell, Off}
-use Rattle.mine_rules.specs.declared.ticks.Step.{Step}
-use Rattle.mine_rules.specs.declared.ticks.Step.the-variants.{Goes, Stays}
+use Rattle.mine_rules.specs.declared.Ahead.{Ahead}
+use Rattle.mine_rules.specs.declared.Ahead.the-variants.{Cell, Off}
+use Rattle.mine_rules.specs.declared.Step.{Step}
+use Rattle.mine_rules.specs.declared.Step.the-variants.{Goes, Stays}
 use Rattle.mine_rules.specs.Ways.{nextCell}
 
 -- a cell on the grid that is empty and has no other creature; the direction becomes the one taken
@@ -53,12 +51,3 @@ tickOne m i = stepped m i (chosen m (getD (m .enemies) i blankSlot) turns)
 -- in list order; the tick goes on
 unfoldable pub ticked : Mine → Mine
 ticked m = across tickOne (m .count) 0 m
-
--- what a creature's step asks of the lent grid and places
-pub record Walks (g spots : List ℕ) (e : Enemy) : Type 0 where
-  pub lent : Lent g spots
-  pub placed : onMap e ≡ true
-
--- whatever else a state holds that has the lent grid and whose creatures stand at the lent places: r is the step there
-abbrev pub Tells : List ℕ → List ℕ → Step → (Mine → Step) → Type 0
-Tells g spots r step = (m : Mine) → m .grid ≡ g → Spotted m spots → r ≡ step m

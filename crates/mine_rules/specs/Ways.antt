@@ -3,8 +3,8 @@ use mathlib.Core.Bool.{Bool, cond}
 use Prim.Native.Nat.{ℕ, _+_, _-_, _<_}
 use lib.Dec.{ltb, eqb}
 use Rattle.mine_state.specs.State.{W, H}
-use Rattle.mine_rules.specs.declared.ways.Ahead.{Ahead}
-use Rattle.mine_rules.specs.declared.ways.Ahead.the-variants.{Cell, Off}
+use Rattle.mine_rules.specs.declared.Ahead.{Ahead}
+use Rattle.mine_rules.specs.declared.Ahead.the-variants.{Cell, Off}
 
 -- 0 up, 1 right, 2 down, 3 left
 abbrev pub UP : ℕ

@@ -1,13 +1,23 @@
-// Block Mine: the rules, on well-formed states.
-mod level;
-mod moves;
-mod ticks;
-mod ways;
+// Block Mine's rules, as definitions (specs/) and their cases and laws (proofs/); here the words that they share with the code.
+use mine_state::Enemy;
 
-pub use level::load;
-pub use moves::step_player;
-pub use ticks::move_enemies;
-pub use ways::DOWN;
-pub use ways::LEFT;
-pub use ways::RIGHT;
-pub use ways::UP;
+// The directions.
+pub const UP: u8 = 0;
+
+pub const RIGHT: u8 = 1;
+
+pub const DOWN: u8 = 2;
+
+pub const LEFT: u8 = 3;
+
+// One step away: a cell of the grid, or off it.
+pub enum Ahead {
+    Cell(usize, usize),
+    Off,
+}
+
+// What a creature does: it goes, to its new place and direction, or stays.
+pub enum Step {
+    Goes(Enemy),
+    Stays,
+}

@@ -1,0 +1,109 @@
+// The one level, and how a text is read as a mine.
+use mine_rules::RIGHT;
+use mine_state::AREA;
+use mine_state::BOULDER;
+use mine_state::COIN;
+use mine_state::DIRT;
+use mine_state::EMPTY;
+use mine_state::EXIT;
+use mine_state::Enemy;
+use mine_state::MAX_ENEMIES;
+use mine_state::Mine;
+use mine_state::W;
+use mine_state::WALL;
+use mine_state::coin_count;
+ghost use mathlib.Core.Path.{_≡_};
+ghost use lib.ListN.{length};
+ghost use Rattle.mine_state.specs.State.{AREA};
+ghost use Rattle.mine_rules.specs.Load.{tileOf, mineOf, loaded};
+
+// `#` wall, `.` dirt, ` ` tunnel, `O` boulder, `$` bitcoin, `E` creature, `X` exit, `P` the miner's start.
+const LEVEL: [u8; AREA] = *b"\
+########################\
+#P..$....O......$...E..#\
+#..OO..$..###..$..OO.$.#\
+#.$..###.....$...###..$#\
+#..$..O.$.###.$.O..$...#\
+#.###...$..O.O..$..###.#\
+#..$..OO.#.#..OO..$..$.#\
+#$..$..$..$.$..$..$...O#\
+#.###.###.###.###.###..#\
+#..O...$...O...$..O..E.#\
+#.$.$.$.$.$.$.$.$.$.$.$#\
+#..#..#..#..#..#..#..#.#\
+#..................$.X.#\
+########################";
+
+// The tile of a character.
+fn tile_of(c: u8) -> u8
+    ensures { λ r. ⌜ r ≡ tileOf c ⌝ }
+{
+    match c {
+        b'#' => WALL,
+        b'.' => DIRT,
+        b' ' => EMPTY,
+        b'O' => BOULDER,
+        b'$' => COIN,
+        b'X' => EXIT,
+        b'P' => EMPTY,
+        b'E' => EMPTY,
+        _ => WALL,
+    }
+}
+
+// The mine that a text draws, row by row.
+fn mine_of(text: &[u8; AREA]) -> Mine
+    requires { ⌜ length (now text) ≡ AREA ⌝ }
+    ensures { λ r. ⌜ r ≡ mineOf (now (text .entry)) ⌝ }
+{
+    let mut grid: [u8; AREA] = [WALL; AREA];
+    let mut px: usize = 1;
+    let mut py: usize = 1;
+    let mut enemies: [Enemy; MAX_ENEMIES] = [Enemy { x: 0, y: 0, dir: 0 }; MAX_ENEMIES];
+    let mut count: usize = 0;
+    let mut i: usize = 0;
+    while i < AREA {
+        let c = text[i];
+        let x = i % W;
+        let y = i / W;
+        grid[i] = tile_of(c);
+        i += 1;
+        match c {
+            b'P' => {
+                px = x;
+                py = y;
+            }
+            b'E' => if count < MAX_ENEMIES {
+                enemies[count] = Enemy {
+                    x: x,
+                    y: y,
+                    dir: RIGHT,
+                };
+                count += 1;
+            },
+            _ => {}
+        }
+    }
+    // Not every coin need survive the boulders, so ask for three quarters of them.
+    let asked = coin_count(&grid) as u32 * 3 / 4;
+    let needed = if asked == 0 { 1 } else { asked };
+    Mine {
+        grid: grid,
+        falling: [false; AREA],
+        px: px,
+        py: py,
+        enemies: enemies,
+        count: count,
+        coins: 0,
+        needed: needed,
+        dead: false,
+        won: false,
+    }
+}
+
+pub fn load() -> Mine
+    ensures { λ r. ⌜ r ≡ loaded ⌝ }
+{
+    let text = LEVEL;
+    mine_of(&text)
+}

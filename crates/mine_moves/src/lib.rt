@@ -1,0 +1,9 @@
+// Block Mine: load, move and creature tick, on well-formed states.
+mod level;
+mod moves;
+mod ticks;
+mod ways;
+
+pub use level::load;
+pub use moves::step_player;
+pub use ticks::move_enemies;
