@@ -2,11 +2,12 @@
 use mathlib.Core.Bool.{Bool, true, false}
 use mathlib.Core.List.{List, [], _∷_}
 use mathlib.Core.Path.{_≡_, refl, _∙_}
-use Prim.Native.Nat.{ℕ, zero, suc, _+_, _-_, _*_, _/_, _%_, _≤_, _<_}
+use Prim.Native.Nat.{ℕ, _+_, _-_, _*_, _/_, _%_, _≤_, _<_}
 use native.Mathlib.Omega.{arith}
 use lib.ListN.{length, take, drop, replicate, length-append, length-replicate}
 use lib.Seq.{take-at, drop-at}
 use Rattle.laws.specs.Lists.{all, any}
+use Rattle.laws.proofs.Lists.{all-replicate}
 use Rattle.laws.proofs.Choice.{and-left, and-right, and-both, and-three, or-left, or-right}
 use Rattle.ground.specs.Cells.{CW, CN, CB-BLACK, MAX-ENEMIES, cellAt, cellOf}
 use Rattle.ground.specs.declared.Mover.{Mover}
@@ -41,10 +42,6 @@ movers-still g h off s (e ∷ es) n a =
     (movers-still g h off s es (or-right (off e) (any off es) n) (and-right (moverOk g e) (all (moverOk g) es) a))
 
 -- ---- slots: the creatures come first, and zeros stand behind them
-
-all-replicate : {A : Type 0} (f : A → Bool) (n : ℕ) (a : A) → f a ≡ true → all f (replicate n a) ≡ true
-all-replicate f zero a e = refl
-all-replicate f (suc n) a e = and-both (f a) (all f (replicate n a)) e (all-replicate f n a e)
 
 pub zeros-blank : (n : ℕ) → all blank (replicate n zeros) ≡ true
 unfolding blank

@@ -1,13 +1,12 @@
 -- A well-formed state has no black on the ring: at most the cells inside it are black. Assumes nothing.
-use mathlib.Core.Bool.{Bool, true, false, cond, true≢false}
-use mathlib.Core.List.{List, [], _∷_}
-use mathlib.Core.Path.{_≡_, refl, sym, _∙_, ap}
-use Prim.Native.Nat.{ℕ, suc, _+_, _-_, _/_, _%_, _≤_, _<_}
+use mathlib.Core.Path.{_≡_, sym, _∙_, ap}
+use Prim.Native.Nat.{ℕ, _+_, _-_, _/_, _%_, _≤_, _<_}
 use native.Mathlib.Omega.{arith}
 use lib.Dec.{eqb}
-use lib.ListN.{length, getD}
+use lib.ListN.{length}
 use borrow.Author.Tests.{eqb-true, eq-eqb}
-use Rattle.laws.specs.Lists.{count, tally}
+use Rattle.laws.specs.Lists.{tally}
+use Rattle.laws.proofs.Counts.{count-mono}
 use Rattle.ground.specs.Cells.{CW, CN, CB-BLACK, CB-FILLED, cellAt}
 use Rattle.cutter_state.specs.declared.Cutter.{Cutter}
 use Rattle.cutter_state.specs.State.{place}
@@ -16,18 +15,6 @@ use Rattle.cutter_state.proofs.Ring.{inside-ring}
 use Rattle.cutter_rules.specs.Level.{freshGrid}
 use Rattle.cutter_keeps.specs.Kept.{INNER, blackIn}
 use Rattle.cutter_keeps.proofs.Level.{inner-black, ground}
-
--- a test that passes only where another does counts no more
-count-mono : (f : ℕ → Bool) (l m : List ℕ) (d : ℕ) → length l ≡ length m → ((i : ℕ) → i < length l → f (getD l i d) ≡ true → f (getD m i d) ≡ true) → count f l ≤ count f m
-count-mono f [] m d h s = omega arith
-count-mono f (x ∷ l) [] d h s = absurd (omega arith)
-count-mono f (x ∷ l) (y ∷ m) d h s = more (f x) (f y) (count f l) (count f m) (s 0 (omega arith)) (count-mono f l m d (omega arith) (λ i k. s (suc i) (omega arith)))
-  where
-    more : (a b : Bool) (j k : ℕ) → (a ≡ true → b ≡ true) → j ≤ k → cond a (suc j) j ≤ cond b (suc k) k
-    more true true j k e h = omega arith
-    more true false j k e h = absurd (true≢false (sym (e refl)))
-    more false true j k e h = omega arith
-    more false false j k e h = h
 
 -- where the grid is black, a fresh one is
 fresh-too : (c : Cutter) → WellFormed c → (i : ℕ) → i < CN → cellAt (c .grid) i ≡ CB-BLACK → cellAt freshGrid i ≡ CB-BLACK

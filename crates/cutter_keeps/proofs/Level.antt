@@ -1,6 +1,6 @@
 -- A fresh level is well formed, and its numbers are those of the ring. Assumes nothing.
-use mathlib.Core.Bool.{Bool, true, false, _&&_}
-use mathlib.Core.List.{List, [], _∷_, _++_}
+use mathlib.Core.Bool.{true, false}
+use mathlib.Core.List.{List, _++_}
 use mathlib.Core.Path.{_≡_, refl, _∙_, ap}
 use Prim.Native.Nat.{ℕ, zero, suc, _+_, _-_, _*_, _/_, _≤_, _<_}
 use native.Mathlib.Omega.{arith}
@@ -8,9 +8,7 @@ use lib.ListN.{length, getD, length-append, List·getD-append}
 use lib.Seq.{getD-append-add}
 use Rattle.laws.specs.Lists.{all, any, table, tally}
 use Rattle.laws.proofs.Below.{same-below}
-use Rattle.laws.proofs.Choice.{and-both}
-use Rattle.laws.proofs.Lists.{all-append}
-use Rattle.laws.proofs.Table.{length-table}
+use Rattle.laws.proofs.Table.{length-table, all-table}
 use Rattle.ground.specs.Cells.{CW, CH, CN, CB-BLACK, CB-FILLED, CB-TRAIL, MAX-ENEMIES, cellAt}
 use Rattle.cutter_state.specs.declared.Cutter.{Cutter}
 use Rattle.cutter_state.specs.State.{place, holdsAt}
@@ -63,11 +61,6 @@ drawn-ok draws i r =
     let f = place-fits draws i r in
     let h = code-holds freshGrid CB-BLACK (1 + drawAt draws i 0) (1 + drawAt draws i 1) (omega arith) (omega arith) (inner-black (drawAt draws i 0) (drawAt draws i 1) (f .0) (f .1)) in
     rw (h, velocity-unit (drawAt draws i 2)) (velocity-unit (drawAt draws i 3))
-
-all-table : {A : Type 0} (f : A → Bool) (n : ℕ) (p : ℕ → A) → ((k : ℕ) → k < n → f (p k) ≡ true) → all f (table n p) ≡ true
-unfolding table
-all-table f zero p h = refl
-all-table f (suc n) p h = all-append f (table n p) (p n ∷ []) ∙ and-both (all f (table n p)) (f (p n) && true) (all-table f n p (λ k l. h k (omega arith))) (and-both (f (p n)) true (h n (omega arith)) refl)
 
 -- ---- the level
 

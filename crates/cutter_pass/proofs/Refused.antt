@@ -1,29 +1,19 @@
 -- What a pass that isn't refused tells of its state and its draws. Assumes nothing.
 use mathlib.Core.Bool.{Bool, true, false, cond, not}
 use mathlib.Core.List.{List}
-use mathlib.Core.Path.{_≡_, refl, sym, _∙_, ap}
-use Prim.Native.Nat.{ℕ, zero, suc, _+_, _<_}
+use mathlib.Core.Path.{_≡_, sym, _∙_, ap}
+use Prim.Native.Nat.{ℕ, _+_}
 use native.Mathlib.Omega.{arith}
 use lib.Dec.{eqb}
 use lib.ListN.{length}
 use borrow.Author.Tests.{eqb-false, not-true}
-use Rattle.refusal.specs.Refusal.{NONE, DRAWS, LAST-LEVEL, unless, _then_}
+use Rattle.refusal.specs.Refusal.{NONE, DRAWS, LAST-LEVEL, unless}
+use Rattle.refusal.proofs.Calls.{then-none, unless-none}
 use Rattle.cutter_state.specs.declared.Cutter.{Cutter}
 use Rattle.cutter_state.specs.WellFormed.{MAX-LEVEL, refusalOf, WellFormed}
-use Rattle.cutter_state.proofs.Facts.{facts, none-well-formed}
+use Rattle.cutter_state.proofs.Facts.{accepted}
 use Rattle.cutter_rules.specs.Level.{creaturesOf, drawsOk}
 use Rattle.cutter_pass.specs.Pass.{levelDue, levelRefusal, passRefusal, NextLevel}
-
-then-none : (n k : ℕ) → (n then k) ≡ NONE → (n ≡ NONE) × (k ≡ NONE)
-then-none zero k e = (refl, e)
-then-none (suc n) k e = absurd (omega arith)
-
-unless-none : (b : Bool) (n : ℕ) → 0 < n → unless b n ≡ NONE → b ≡ true
-unless-none true n h e = refl
-unless-none false n h e = absurd (omega arith)
-
-pub accepted : (c : Cutter) → refusalOf c ≡ NONE → WellFormed c
-accepted c e = facts c (none-well-formed c e)
 
 due-level : (c : Cutter) → c .dead ≡ false → c .«won_level» ≡ true → levelDue c ≡ true
 unfolding levelDue

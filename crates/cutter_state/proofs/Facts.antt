@@ -13,7 +13,7 @@ use Rattle.cutter_state.specs.declared.Cutter.{Cutter}
 use Rattle.cutter_state.specs.State.{holdsAt, creatures, spare}
 use Rattle.cutter_state.specs.WellFormed.{MAX-LIVES, MAX-LEVEL, isCode, isTrail, rowsFilled, columnsFilled, cellsOk, footing, directionOk, playerOk, moverOk, blank, creaturesOk, numbersOk, wellFormed, refusalOf, WellFormed}
 
-pub none-well-formed : (c : Cutter) → refusalOf c ≡ NONE → wellFormed c ≡ true
+none-well-formed : (c : Cutter) → refusalOf c ≡ NONE → wellFormed c ≡ true
 unfolding refusalOf wellFormed
 none-well-formed c e = none-passes (cellsOk (c .grid) (c .trailing)) (playerOk c) (creaturesOk c) (numbersOk c) e
 
@@ -60,6 +60,10 @@ facts c e =
       lives = leb-true (c .lives) MAX-LIVES (k .0);
       level = (leb-true 1 (c .level) (k .1), leb-true (c .level) MAX-LEVEL (k .2));
     }
+
+-- a state that is not refused is well formed
+pub accepted : (c : Cutter) → refusalOf c ≡ NONE → WellFormed c
+accepted c e = facts c (none-well-formed c e)
 
 pub from-facts : (c : Cutter) → WellFormed c → wellFormed c ≡ true
 unfolding wellFormed cellsOk playerOk creaturesOk numbersOk

@@ -3,18 +3,18 @@
 use mathlib.Core.Bool.{Bool, true, false, cond, not, _&&_, false≢true}
 use mathlib.Core.List.{List}
 use mathlib.Core.Path.{_≡_, refl, sym, subst, _∙_}
-use Prim.Native.Nat.{ℕ, zero, suc}
+use Prim.Native.Nat.{ℕ}
 use native.Mathlib.Omega.{arith}
 use borrow.Author.Tests.{not-true, eqb-true, eq-eqb, ne-eqb}
 use lib.Dec.{eqb, leb}
 use Rattle.laws.proofs.Choice.{cond-both, and-left, and-right}
 use Rattle.refusal.specs.Refusal.{NONE, COMMAND, DRAWS, unless, _then_, refusedOr}
-use Rattle.refusal.proofs.Calls.{answered-by, refused-or-answered}
+use Rattle.refusal.proofs.Calls.{then-none, unless-none, answered-by, refused-or-answered}
 use Rattle.answer.specs.declared.Answer.the-variants.{GoingOn}
 use Rattle.cutter_state.specs.declared.Cutter.{Cutter}
 use Rattle.cutter_state.specs.Change.{withLevel, withLives}
 use Rattle.cutter_state.specs.WellFormed.{MAX-LIVES, WellFormed, refusalOf}
-use Rattle.cutter_state.proofs.Facts.{from-facts, well-formed-none}
+use Rattle.cutter_state.proofs.Facts.{accepted, from-facts, well-formed-none}
 use Rattle.cutter_rules.specs.Level.{creaturesOf, drawsOk, freshLevel}
 use Rattle.cutter_rules.specs.Step.{LEFT, directed, stepped, respawned}
 use Rattle.cutter_rules.specs.Tick.{enemiesStepped}
@@ -29,21 +29,11 @@ use Rattle.cutter_keeps.proofs.Accounts.{kept-accounts, erased-accounts, step-a
 use Rattle.cutter_pass.specs.declared.CutterTurn.{CutterTurn}
 use Rattle.cutter_pass.specs.Pass.{levelDue, passRefusal, hurt, played, still, afterDeath, afterKeys, passOn, passAt}
 use Rattle.cutter_pass.specs.Accounts.{passClaims, passLoses}
-use Rattle.cutter_pass.proofs.Refused.{accepted, pass-state, pass-level}
+use Rattle.cutter_pass.proofs.Refused.{pass-state, pass-level}
 use Rattle.cutter_pass.proofs.Accounts.{pass-accounts, pass-fresh, pass-formed}
 use Rattle.cutter.specs.declared.calls.CutterAnswer.{CutterAnswer}
 use Rattle.cutter.specs.Calls.{refused, answered, zeros, FIRST-LEVEL, roundCall, levelCall, directionCall, stepCall, enemiesCall, respawnCall}
 use Rattle.games.specs.CutterAccounts.{Formed}
-use Rattle.games.proofs.MineCalls.{first-none}
-
--- two checks that give no number: the second gives none
-second-none : (n k : ℕ) → (n then k) ≡ NONE → k ≡ NONE
-second-none zero k e = e
-second-none (suc n) k e = absurd (let q : ⊥ = omega arith in q)
-
-passed : (b : Bool) → unless b DRAWS ≡ NONE → b ≡ true
-passed true e = refl
-passed false e = absurd (let q : ⊥ = omega arith in q)
 
 -- ---- a fresh level
 
@@ -54,7 +44,7 @@ round-fresh draws =
     let ok : Bool = drawsOk draws (creaturesOf FIRST-LEVEL) in
     refused-or-answered (refused zeros) (answered (freshLevel s draws)) (λ (a : CutterAnswer). a .refusal ≡ NONE → Fresh (a .game)) (unless ok DRAWS)
     (λ some none. absurd (some none))
-    (λ e _. level-fresh s draws (omega arith) (omega arith) (omega arith) (passed ok e))
+    (λ e _. level-fresh s draws (omega arith) (omega arith) (omega arith) (unless-none ok DRAWS (omega arith) e))
 
 pub call-fresh : (c : Cutter) (draws : List ℕ) → levelCall c draws .refusal ≡ NONE → Fresh (levelCall c draws .game)
 unfolding levelCall
@@ -63,8 +53,9 @@ call-fresh c draws =
     refused-or-answered (refused c) (answered (freshLevel c draws)) (λ (a : CutterAnswer). a .refusal ≡ NONE → Fresh (a .game)) (refusalOf c then unless ok DRAWS)
     (λ some none. absurd (some none))
     (λ e _.
-    (let w = accepted c (first-none (refusalOf c) (unless ok DRAWS) e) in
-    level-fresh c draws (w .lives) (w .level .0) (w .level .1) (passed ok (second-none (refusalOf c) (unless ok DRAWS) e))))
+    (let two = then-none (refusalOf c) (unless ok DRAWS) e in
+    let w = accepted c (two .0) in
+    level-fresh c draws (w .lives) (w .level .0) (w .level .1) (unless-none ok DRAWS (omega arith) (two .1))))
 
 -- ---- a call that starts no level
 
@@ -170,7 +161,7 @@ module _ (c : Cutter) where
   unfolding directionCall
   direction-formed dir =
       let no : ℕ = unless (leb dir LEFT) COMMAND in
-      call-formed c (directed c dir) (refusalOf c then no) (λ e. direction-kept c dir (accepted c (first-none (refusalOf c) no e)) .formed)
+      call-formed c (directed c dir) (refusalOf c then no) (λ e. direction-kept c dir (accepted c (then-none (refusalOf c) no e .0)) .formed)
 
   pub step-formed : Formed (stepCall c)
   unfolding stepCall

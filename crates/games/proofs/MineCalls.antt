@@ -1,14 +1,14 @@
 -- What each call of Block Mine keeps of a well-formed state, and that a state it answers with is well formed. Assumes nothing.
 use mathlib.Core.List.{List}
-use mathlib.Core.Path.{_≡_, refl}
-use Prim.Native.Nat.{ℕ, zero, suc}
+use mathlib.Core.Path.{_≡_}
+use Prim.Native.Nat.{ℕ}
 use lib.Dec.{leb}
 use Rattle.refusal.specs.Refusal.{NONE, COMMAND, unless, _then_, refusedOr}
-use Rattle.refusal.proofs.Calls.{refused-or-answered}
+use Rattle.refusal.proofs.Calls.{then-none, refused-or-answered}
 use Rattle.answer.specs.declared.Answer.the-variants.{GoingOn}
 use Rattle.mine_state.specs.declared.Mine.{Mine}
 use Rattle.mine_state.specs.WellFormed.{WellFormed, refusalOf}
-use Rattle.mine_state.proofs.Facts.{facts, none-well-formed}
+use Rattle.mine_state.proofs.Facts.{accepted}
 use Rattle.mine_rules.specs.Ways.{LEFT}
 use Rattle.mine_rules.specs.Move.{moved}
 use Rattle.mine_rules.specs.Tick.{ticked}
@@ -23,14 +23,6 @@ use Rattle.mine_pass.specs.Pass.{still, passOn, passAt}
 use Rattle.mine_pass.proofs.Kept.{pass-kept}
 use Rattle.mine.specs.declared.calls.MineAnswer.{MineAnswer}
 use Rattle.mine.specs.Calls.{refused, answered, moveCall, gravityCall, tickCall}
-
--- two checks that give no number: the first gives none
-pub first-none : (n k : ℕ) → (n then k) ≡ NONE → n ≡ NONE
-first-none zero k e = refl
-first-none (suc n) k e = e
-
-formed : (m : Mine) → refusalOf m ≡ NONE → WellFormed m
-formed m e = facts m (none-well-formed m e)
 
 -- a call that answers with s where the number n is none
 module _ (m s : Mine) (n : ℕ) where
@@ -60,15 +52,15 @@ module _ (m : Mine) where
   unfolding moveCall
   moveCall-formed dir =
       let no : ℕ = unless (leb dir LEFT) COMMAND in
-      call-formed m (moved m dir) (refusalOf m then no) (λ e. move-kept m dir (formed m (first-none (refusalOf m) no e)) .formed)
+      call-formed m (moved m dir) (refusalOf m then no) (λ e. move-kept m dir (accepted m (then-none (refusalOf m) no e .0)) .formed)
 
   pub gravityCall-formed : gravityCall m .refusal ≡ NONE → WellFormed (gravityCall m .game)
   unfolding gravityCall
-  gravityCall-formed = call-formed m (gravityOf m) (refusalOf m) (λ e. gravity-kept m (formed m e) .formed)
+  gravityCall-formed = call-formed m (gravityOf m) (refusalOf m) (λ e. gravity-kept m (accepted m e) .formed)
 
   pub tickCall-formed : tickCall m .refusal ≡ NONE → WellFormed (tickCall m .game)
   unfolding tickCall
-  tickCall-formed = call-formed m (ticked m) (refusalOf m) (λ e. tick-kept m (formed m e) .formed)
+  tickCall-formed = call-formed m (ticked m) (refusalOf m) (λ e. tick-kept m (accepted m e) .formed)
 
   module _ (keys : List ℕ) (time first second : ℕ) where
     pub passAt-kept : WellFormed m → Kept m (passAt m keys time first second .passed .game)
@@ -84,4 +76,4 @@ module _ (m : Mine) where
         refused-or-answered (λ n. still first second n GoingOn m) (passOn first second m keys time)
         (λ (t : MineTurn). t .passed .refusal ≡ NONE → WellFormed (t .passed .game)) (refusalOf m)
         (λ some none. absurd (some none))
-        (λ e _. pass-kept first second m keys time (formed m e) .formed)
+        (λ e _. pass-kept first second m keys time (accepted m e) .formed)

@@ -1,5 +1,5 @@
 -- How a store changes a count. Assumes nothing.
-use mathlib.Core.Bool.{Bool, true, false, cond}
+use mathlib.Core.Bool.{Bool, true, false, cond, true≢false}
 use mathlib.Core.List.{List, [], _∷_, _++_, map}
 use mathlib.Core.Logic.{⊎-elim}
 use mathlib.Core.Path.{_≡_, refl, sym, _∙_, ap}
@@ -136,3 +136,15 @@ count-map f p (x ∷ l) = rw (count-map f p l)
 pub count-plus : {A : Type 0} (f g h : A → Bool) → ((x : A) → bit (f x) ≡ bit (g x) + bit (h x)) → (l : List A) → count f l ≡ count g l + count h l
 count-plus f g h s [] = omega arith
 count-plus f g h s (x ∷ l) = omega (arith, s x, count-plus f g h s l, one-less (f x) (count f l), one-less (g x) (count g l), one-less (h x) (count h l))
+
+-- a test that passes only where another does counts no more
+pub count-mono : {A : Type 0} (f : A → Bool) (l m : List A) (d : A) → length l ≡ length m → ((i : ℕ) → i < length l → f (getD l i d) ≡ true → f (getD m i d) ≡ true) → count f l ≤ count f m
+count-mono f [] m d h s = omega arith
+count-mono f (x ∷ l) [] d h s = absurd (omega arith)
+count-mono f (x ∷ l) (y ∷ m) d h s = more (f x) (f y) (count f l) (count f m) (s 0 (omega arith)) (count-mono f l m d (omega arith) (λ i k. s (suc i) (omega arith)))
+  where
+    more : (a b : Bool) (j k : ℕ) → (a ≡ true → b ≡ true) → j ≤ k → cond a (suc j) j ≤ cond b (suc k) k
+    more true true j k e h = omega arith
+    more true false j k e h = absurd (true≢false (sym (e refl)))
+    more false true j k e h = omega arith
+    more false false j k e h = h

@@ -169,3 +169,8 @@ module _ {A : Type 0} (f : A → Bool) where
 pub all-weaken : {A : Type 0} (f g : A → Bool) → ((x : A) → f x ≡ true → g x ≡ true) → (l : List A) → all f l ≡ true → all g l ≡ true
 all-weaken f g h [] a = refl
 all-weaken f g h (x ∷ l) a = and-both (g x) (all g l) (h x (and-left (f x) (all f l) a)) (all-weaken f g h l (and-right (f x) (all f l) a))
+
+-- each element of a list of one value
+pub all-replicate : {A : Type 0} (f : A → Bool) (n : ℕ) (a : A) → f a ≡ true → all f (replicate n a) ≡ true
+all-replicate f zero a e = refl
+all-replicate f (suc n) a e = and-both (f a) (all f (replicate n a)) e (all-replicate f n a e)

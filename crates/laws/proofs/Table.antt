@@ -1,4 +1,5 @@
 -- The laws of `table`: a list that is filled from the front, one store a turn, and read by its index. Assumes nothing.
+use mathlib.Core.Bool.{Bool, true, _&&_}
 use mathlib.Core.Path.{_≡_, refl, sym, ap, ap₂, _∙_}
 use mathlib.Core.List.{List, [], _∷_, _++_, append-assoc, append-nil}
 use Prim.Native.Nat.{ℕ, zero, suc, _+_, _≤_, _<_}
@@ -7,7 +8,9 @@ use native.Mathlib.Numerals.{add-one}
 use native.Mathlib.Omega.{arith}
 use lib.ListN.{length, getD, set, drop, length-append, drop-of-length-le, List·getD-append}
 use lib.Seq.{drop-cons, set-at, getD-at}
-use Rattle.laws.specs.Lists.{table}
+use Rattle.laws.specs.Lists.{all, table}
+use Rattle.laws.proofs.Choice.{and-both}
+use Rattle.laws.proofs.Lists.{all-append}
 
 module _ {A : Type 0} where
   pub length-table : (n : ℕ) (f : ℕ → A) → length (table n f) ≡ n
@@ -43,3 +46,9 @@ module _ {A : Type 0} where
 
   pub table-whole : (n : ℕ) (f : ℕ → A) (d : List A) → length d ≡ n → table n f ++ drop n d ≡ table n f
   table-whole n f d h = rw (drop-of-length-le d {i = n} (omega arith)) (append-nil (table n f))
+
+-- what holds of each value below n
+pub all-table : {A : Type 0} (f : A → Bool) (n : ℕ) (p : ℕ → A) → ((k : ℕ) → k < n → f (p k) ≡ true) → all f (table n p) ≡ true
+unfolding table
+all-table f zero p h = refl
+all-table f (suc n) p h = all-append f (table n p) (p n ∷ []) ∙ and-both (all f (table n p)) (f (p n) && true) (all-table f n p (λ k l. h k (omega arith))) (and-both (f (p n)) true (h n (omega arith)) refl)

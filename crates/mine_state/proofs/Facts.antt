@@ -37,7 +37,7 @@ pass true true false d e = absurd (false≢true e)
 pass true false c d e = absurd (false≢true e)
 pass false b c d e = absurd (false≢true e)
 
-pub none-well-formed : (m : Mine) → refusalOf m ≡ 0 → wellFormed m ≡ true
+none-well-formed : (m : Mine) → refusalOf m ≡ 0 → wellFormed m ≡ true
 unfolding refusalOf wellFormed
 none-well-formed m e = none (cellsOk m) (playerOk m) (creaturesOk m) (numbersOk m) e
 
@@ -76,6 +76,10 @@ facts m e =
       coins = leb-true (purse m) AREA (k .0);
       asked = (leb-true 1 (m .needed) (k .1), leb-true (m .needed) AREA (k .2));
     }
+
+-- a state that is not refused is well formed
+pub accepted : (m : Mine) → refusalOf m ≡ 0 → WellFormed m
+accepted m e = facts m (none-well-formed m e)
 
 pub from-facts : (m : Mine) → WellFormed m → wellFormed m ≡ true
 unfolding wellFormed cellsOk creaturesOk numbersOk

@@ -9,7 +9,7 @@ use Rattle.refusal.proofs.Calls.{then-first}
 use Rattle.cutter_state.specs.WellFormed.{MAX-LEVEL, refusalOf}
 use Rattle.cutter_rules.specs.Level.{creaturesOf, drawsOk}
 use Rattle.cutter_pass.specs.Pass.{levelRefusal, passRefusal}
-use Rattle.cutter_pass.proofs.Refused.{accepted}
+use Rattle.cutter_state.proofs.Facts.{accepted}
 use Rattle.cutter_pass.proofs.refusal_of.Statement.{statement}
 use Rattle.cutter_pass.proofs.refusal_of.Tie as tie
 

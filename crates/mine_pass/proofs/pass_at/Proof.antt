@@ -1,8 +1,8 @@
 -- `mine_pass::pass_at` meets its contract. Assumes nothing.
-use mathlib.Core.Path.{_≡_, refl, sym, _∙_, subst}
+use mathlib.Core.Path.{sym, _∙_, subst}
 use borrow.Author.Needs.{needs}
 use Rattle.mine_state.specs.WellFormed.{WellFormed}
-use Rattle.mine_state.proofs.Facts.{facts, none-well-formed}
+use Rattle.mine_state.proofs.Facts.{accepted}
 use Rattle.mine_pass.specs.declared.Played.{Played}
 use Rattle.mine_pass.proofs.Keys.{keys-kept}
 use Rattle.mine_pass.proofs.Kept.{fallen-kept}
@@ -45,7 +45,7 @@ returns-3 c =
 play-requires : tie.Need-play-requires
 play-requires c κs =
     let k = c .before .before .before in
-    facts _ (none-well-formed _ (sym (k .check .ensures) ∙ c .before .before .if1 .left))
+    accepted _ (sym (k .check .ensures) ∙ c .before .before .if1 .left)
 
 turn-requires-4 : tie.Need-turn-requires-4
 turn-requires-4 c κs = search needs
@@ -65,14 +65,14 @@ gravity-if-requires : tie.Need-gravity-if-requires
 gravity-if-requires c κs =
     let p = c .before .before in
     let k = p .before .before .before .before in
-    let w = facts _ (none-well-formed _ (sym (k .check .ensures) ∙ p .before .before .before .if1 .left)) in
+    let w = accepted _ (sym (k .check .ensures) ∙ p .before .before .before .if1 .left) in
     rw (p .play .ensures) (keys-kept (k .before .before .args .m) (k .before .before .args .keys .now) w .formed)
 
 enemies-if-requires : tie.Need-enemies-if-requires
 enemies-if-requires c κs =
     let p = c .before .before .before in
     let k = p .before .before .before .before in
-    let w = facts _ (none-well-formed _ (sym (k .check .ensures) ∙ p .before .before .before .if1 .left)) in
+    let w = accepted _ (sym (k .check .ensures) ∙ p .before .before .before .if1 .left) in
     let s = subst (λ (q : Played). WellFormed (q .game)) (sym (p .play .ensures)) (keys-kept (k .before .before .args .m) (k .before .before .args .keys .now) w .formed) in
     rw (c .«gravity-if» .ensures) (fallen-kept _ s (c .before .«both-ticks» .result .one) .formed)
 

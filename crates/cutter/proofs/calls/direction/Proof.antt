@@ -3,9 +3,9 @@ use mathlib.Core.Path.{_∙_, ap}
 use borrow.Author.Needs.{needs}
 use borrow.Author.Tests.{le-leb, lt-leb}
 use Rattle.refusal.specs.Refusal.{NONE, COMMAND}
+use Rattle.refusal.proofs.Calls.{turned-away-first, by-second}
 use Rattle.cutter_rules.specs.Step.{LEFT, directed}
 use Rattle.cutter.specs.Calls.{refused, answered, directionCall}
-use Rattle.cutter.proofs.Accepted.{turned-away-first, by-second}
 use Rattle.cutter.proofs.calls.direction.Statement.{statement}
 use Rattle.cutter.proofs.calls.direction.Tie as tie
 
@@ -16,13 +16,13 @@ returns : tie.Need-returns
 unfolding directionCall
 returns c =
     let a = c .before .before .args in
-    turned-away-first (a .c) (c .before .check .ensures) (refused (a .c)) (answered (directed (a .c) (a .dir))) _ (c .if1 .taken)
+    turned-away-first (refused (a .c)) (answered (directed (a .c) (a .dir))) (c .before .check .ensures) _ (c .if1 .taken)
 
 returns-2 : tie.Need-returns-2
 unfolding directionCall
 returns-2 c =
     let a = c .before .before .before .args in
-    let by = by-second (a .c) (c .before .before .check .ensures) (refused (a .c)) (answered (directed (a .c) (a .dir))) COMMAND (c .before .if1 .left) in
+    let by = by-second (refused (a .c)) (answered (directed (a .c) (a .dir))) (c .before .before .check .ensures) COMMAND (c .before .if1 .left) in
     rw (lt-leb (a .dir) LEFT (c .if2 .taken)) by
 
 direction-requires : tie.Need-direction-requires
@@ -32,7 +32,7 @@ returns-3 : tie.Need-returns-3
 unfolding directionCall
 returns-3 c =
     let a = c .before .before .before .before .args in
-    let by = by-second (a .c) (c .before .before .before .check .ensures) (refused (a .c)) (answered (directed (a .c) (a .dir))) NONE (c .before .before .if1 .left) in
+    let by = by-second (refused (a .c)) (answered (directed (a .c) (a .dir))) (c .before .before .before .check .ensures) NONE (c .before .before .if1 .left) in
     rw (le-leb (a .dir) LEFT (c .before .if2 .left)) (ap answered (c .direction .ensures) ∙ by)
 
 pub direction-spec : {M : Type 1} → statement M

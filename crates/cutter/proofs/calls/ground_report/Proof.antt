@@ -1,11 +1,12 @@
 -- `cutter::ground_report` meets its contract. Assumes nothing.
-use mathlib.Core.Path.{sym, subst}
+use mathlib.Core.Path.{sym, subst, _∙_}
 use Prim.Native.Nat.{ℕ, _≤_}
 use borrow.Author.Needs.{needs}
+use Rattle.refusal.proofs.Calls.{turned-away, let-in}
+use Rattle.cutter_state.proofs.Facts.{accepted}
 use Rattle.cutter_keeps.specs.Kept.{INNER}
 use Rattle.cutter_keeps.proofs.Inner.{black-most}
 use Rattle.cutter.specs.Calls.{unreported, reported, reportCall}
-use Rattle.cutter.proofs.Accepted.{accepted, turned-away, let-in}
 use Rattle.cutter.proofs.calls.ground_report.Statement.{statement}
 use Rattle.cutter.proofs.calls.ground_report.Tie as tie
 
@@ -14,7 +15,7 @@ check-requires c κs = search needs
 
 returns : tie.Need-returns
 unfolding reportCall
-returns c = let s = c .before .before .args .t1 in turned-away s (c .before .check .ensures) unreported (reported s) (c .if1 .taken)
+returns c = let s = c .before .before .args .t1 in turned-away unreported (reported s) (c .before .check .ensures) (c .if1 .taken)
 
 black-count-requires : tie.Need-black-count-requires
 black-count-requires c κs = search needs
@@ -30,7 +31,7 @@ share-of-requires c κs =
     let b = c .before .before .before .before .before .before in
     let k = b .before .before .before .before in
     let s = k .before .args .t1 in
-    subst (λ (n : ℕ). n ≤ INNER) (sym (b .«black-count» .ensures)) (black-most s (accepted s (k .check .ensures) (b .before .before .before .if1 .left)))
+    subst (λ (n : ℕ). n ≤ INNER) (sym (b .«black-count» .ensures)) (black-most s (accepted s (sym (k .check .ensures) ∙ b .before .before .before .if1 .left)))
 
 returns-2 : tie.Need-returns-2
 unfolding reportCall
@@ -39,7 +40,7 @@ returns-2 c =
     let b = n .before .before .before in
     let k = b .before .before .before .before in
     let s = k .before .args .t1 in
-    let-in s (k .check .ensures) unreported (reported s)
+    let-in unreported (reported s) (k .check .ensures)
     (rw (c .«share-of» .ensures, c .before .«count-of2» .ensures, n .«count-of» .ensures, b .«black-count» .ensures))
     (b .before .before .before .if1 .left)
 

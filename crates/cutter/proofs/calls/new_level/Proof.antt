@@ -3,9 +3,9 @@ use mathlib.Core.Bool.{true, false}
 use mathlib.Core.Path.{_≡_, sym, _∙_, ap}
 use borrow.Author.Needs.{needs}
 use Rattle.refusal.specs.Refusal.{NONE, DRAWS}
+use Rattle.refusal.proofs.Calls.{turned-away-first, by-second}
 use Rattle.cutter_rules.specs.Level.{creaturesOf, drawsOk, freshLevel}
 use Rattle.cutter.specs.Calls.{refused, answered, levelCall}
-use Rattle.cutter.proofs.Accepted.{turned-away-first, by-second}
 use Rattle.cutter.proofs.calls.new_level.Statement.{statement}
 use Rattle.cutter.proofs.calls.new_level.Tie as tie
 
@@ -17,7 +17,7 @@ unfolding levelCall
 returns c =
     let k = c .before in
     let a = k .before .before .args in
-    turned-away-first (a .c) (k .check .ensures) (refused (a .c)) (answered (freshLevel (a .c) (a .draws .now))) _ (c .if1 .taken)
+    turned-away-first (refused (a .c)) (answered (freshLevel (a .c) (a .draws .now))) (k .check .ensures) _ (c .if1 .taken)
 
 creatures-of-requires : tie.Need-creatures-of-requires
 creatures-of-requires c κs = search needs
@@ -37,7 +37,7 @@ returns-2 c =
     let k = d .before .before .before in
     let a = k .before .before .args in
     let ok : drawsOk (a .draws .now) (creaturesOf (a .c .level)) ≡ true = ap (drawsOk (a .draws .now)) (sym (d .before .«creatures-of» .ensures)) ∙ sym (d .«draws-ok» .ensures) ∙ c .before .if2 .taken in
-    let by = by-second (a .c) (k .check .ensures) (refused (a .c)) (answered (freshLevel (a .c) (a .draws .now))) NONE (d .before .before .if1 .left) in
+    let by = by-second (refused (a .c)) (answered (freshLevel (a .c) (a .draws .now))) (k .check .ensures) NONE (d .before .before .if1 .left) in
     rw ok (ap answered (c .«new-level» .ensures) ∙ by)
 
 returns-3 : tie.Need-returns-3
@@ -47,7 +47,7 @@ returns-3 c =
     let k = d .before .before .before in
     let a = k .before .before .args in
     let no : drawsOk (a .draws .now) (creaturesOf (a .c .level)) ≡ false = ap (drawsOk (a .draws .now)) (sym (d .before .«creatures-of» .ensures)) ∙ sym (d .«draws-ok» .ensures) ∙ c .if2 .left in
-    let by = by-second (a .c) (k .check .ensures) (refused (a .c)) (answered (freshLevel (a .c) (a .draws .now))) DRAWS (d .before .before .if1 .left) in
+    let by = by-second (refused (a .c)) (answered (freshLevel (a .c) (a .draws .now))) (k .check .ensures) DRAWS (d .before .before .if1 .left) in
     rw no by
 
 pub new-level-spec : {M : Type 1} → statement M

@@ -1,9 +1,9 @@
 -- `cutter::respawn` meets its contract. Assumes nothing.
 use mathlib.Core.Path.{ap}
 use borrow.Author.Needs.{needs}
+use Rattle.refusal.proofs.Calls.{turned-away, let-in}
 use Rattle.cutter_rules.specs.Step.{respawned}
 use Rattle.cutter.specs.Calls.{refused, answered, respawnCall}
-use Rattle.cutter.proofs.Accepted.{turned-away, let-in}
 use Rattle.cutter.proofs.calls.respawn.Statement.{statement}
 use Rattle.cutter.proofs.calls.respawn.Tie as tie
 
@@ -12,7 +12,7 @@ check-requires c κs = search needs
 
 returns : tie.Need-returns
 unfolding respawnCall
-returns c = let s = c .before .before .args .c in turned-away s (c .before .check .ensures) (refused s) (answered (respawned s)) (c .if1 .taken)
+returns c = let s = c .before .before .args .c in turned-away (refused s) (answered (respawned s)) (c .before .check .ensures) (c .if1 .taken)
 
 respawn-requires : tie.Need-respawn-requires
 respawn-requires c κs = search needs
@@ -21,7 +21,7 @@ returns-2 : tie.Need-returns-2
 unfolding respawnCall
 returns-2 c =
     let s = c .before .before .before .args .c in
-    let-in s (c .before .before .check .ensures) (refused s) (answered (respawned s)) (ap answered (c .«respawn» .ensures)) (c .before .if1 .left)
+    let-in (refused s) (answered (respawned s)) (c .before .before .check .ensures) (ap answered (c .«respawn» .ensures)) (c .before .if1 .left)
 
 pub respawn-spec : {M : Type 1} → statement M
 respawn-spec = tie.close (tie.spec check-requires returns respawn-requires returns-2)

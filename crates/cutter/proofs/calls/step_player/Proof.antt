@@ -1,9 +1,10 @@
 -- `cutter::step_player` meets its contract. Assumes nothing.
-use mathlib.Core.Path.{ap}
+use mathlib.Core.Path.{ap, sym, _∙_}
 use borrow.Author.Needs.{needs}
+use Rattle.refusal.proofs.Calls.{turned-away, let-in}
+use Rattle.cutter_state.proofs.Facts.{accepted}
 use Rattle.cutter_rules.specs.Step.{stepped}
 use Rattle.cutter.specs.Calls.{refused, answered, stepCall}
-use Rattle.cutter.proofs.Accepted.{accepted, turned-away, let-in}
 use Rattle.cutter.proofs.calls.step_player.Statement.{statement}
 use Rattle.cutter.proofs.calls.step_player.Tie as tie
 
@@ -12,16 +13,16 @@ check-requires c κs = search needs
 
 returns : tie.Need-returns
 unfolding stepCall
-returns c = let s = c .before .before .args .c in turned-away s (c .before .check .ensures) (refused s) (answered (stepped s)) (c .if1 .taken)
+returns c = let s = c .before .before .args .c in turned-away (refused s) (answered (stepped s)) (c .before .check .ensures) (c .if1 .taken)
 
 step-player-requires : tie.Need-step-player-requires
-step-player-requires c κs = accepted _ (c .before .check .ensures) (c .if1 .left)
+step-player-requires c κs = accepted _ (sym (c .before .check .ensures) ∙ c .if1 .left)
 
 returns-2 : tie.Need-returns-2
 unfolding stepCall
 returns-2 c =
     let s = c .before .before .before .args .c in
-    let-in s (c .before .before .check .ensures) (refused s) (answered (stepped s)) (ap answered (c .«step-player» .ensures)) (c .before .if1 .left)
+    let-in (refused s) (answered (stepped s)) (c .before .before .check .ensures) (ap answered (c .«step-player» .ensures)) (c .before .if1 .left)
 
 pub step-player-spec : {M : Type 1} → statement M
 step-player-spec = tie.close (tie.spec check-requires returns step-player-requires returns-2)
