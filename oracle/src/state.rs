@@ -1,5 +1,5 @@
 //! The states as the port has them: the original's fields in its order, with a count behind
-//! each creature array and zeros in the slots past it. They may be ill formed.
+//! each creature array and zeros in the slots past it, laid out as in C. They may be ill formed.
 
 use crate::bytes::{Field, fields};
 
@@ -47,6 +47,7 @@ pub fn beside(x: usize, y: usize, dir: u8, w: usize, h: usize) -> Option<(usize,
 }
 
 #[derive(Clone, Copy, Debug, Default, PartialEq, Eq)]
+#[repr(C)]
 pub struct Enemy {
     pub x: usize,
     pub y: usize,
@@ -54,6 +55,7 @@ pub struct Enemy {
 }
 
 #[derive(Clone, Debug, PartialEq, Eq)]
+#[repr(C)]
 pub struct Mine {
     pub grid: [u8; CELLS],
     pub falling: [bool; CELLS],
@@ -68,6 +70,7 @@ pub struct Mine {
 }
 
 #[derive(Clone, Copy, Debug, Default, PartialEq, Eq)]
+#[repr(C)]
 pub struct Mover {
     pub x: u8,
     pub y: u8,
@@ -76,6 +79,7 @@ pub struct Mover {
 }
 
 #[derive(Clone, Debug, PartialEq, Eq)]
+#[repr(C)]
 pub struct Cutter {
     pub grid: [u8; CN],
     pub px: usize,

@@ -169,3 +169,57 @@ fn turn(g: &mut Game, keys: &[u8], draws: &[u8], time: u32, pace: &mut Pace) -> 
     }
     Answer::GoingOn
 }
+
+/// The original's own game, held from call to call: what `bench` measures.
+pub struct Held(Game);
+
+impl Held {
+    pub fn of(c: &Cutter) -> Self {
+        Held(game(c))
+    }
+
+    pub fn state(&self) -> Cutter {
+        cutter(&self.0)
+    }
+
+    /// Its draws come from the device.
+    #[inline(never)]
+    pub fn new_level(&mut self) {
+        self.0.new_level();
+    }
+
+    #[inline(never)]
+    pub fn step_player(&mut self) {
+        self.0.step_player();
+    }
+
+    #[inline(never)]
+    pub fn step_enemies(&mut self) {
+        self.0.step_enemies();
+    }
+
+    #[inline(never)]
+    pub fn respawn(&mut self) {
+        self.0.respawn();
+    }
+
+    #[inline(never)]
+    pub fn move_to_border(&mut self) {
+        self.0.move_to_border();
+    }
+
+    #[inline(never)]
+    pub fn black_count(&self) -> usize {
+        self.0.black_count()
+    }
+
+    #[inline(never)]
+    pub fn render(&self, pixels: &mut [u8; FRAME]) {
+        cutter_render(&mut Frame::new(pixels, &mut Vec::new()), &self.0);
+    }
+
+    #[inline(never)]
+    pub fn pass(&mut self, keys: &[u8], draws: &[u8], time: u32, pace: &mut Pace) -> Answer {
+        turn(&mut self.0, keys, draws, time, pace)
+    }
+}

@@ -111,3 +111,47 @@ fn turn(g: &mut Game, keys: &[u8], time: u32, pace: &mut Pace) -> Answer {
     }
     Answer::GoingOn
 }
+
+/// The original's own game, held from call to call: what `bench` measures.
+pub struct Held(Game);
+
+impl Held {
+    #[inline(never)]
+    pub fn load() -> Self {
+        Held(Game::load())
+    }
+
+    pub fn of(m: &Mine) -> Self {
+        Held(game(m))
+    }
+
+    pub fn state(&self) -> Mine {
+        mine(&self.0)
+    }
+
+    #[inline(never)]
+    pub fn step_player(&mut self, dir: u8) {
+        let (dx, dy) = dir_delta(dir);
+        self.0.step_player(dx, dy);
+    }
+
+    #[inline(never)]
+    pub fn gravity(&mut self) {
+        self.0.gravity();
+    }
+
+    #[inline(never)]
+    pub fn move_enemies(&mut self) {
+        self.0.move_enemies();
+    }
+
+    #[inline(never)]
+    pub fn render(&self, pixels: &mut [u8; FRAME], texts: &mut Vec<String>) {
+        paint(&mut Frame::new(pixels, texts), &self.0);
+    }
+
+    #[inline(never)]
+    pub fn pass(&mut self, keys: &[u8], time: u32, pace: &mut Pace) -> Answer {
+        turn(&mut self.0, keys, time, pace)
+    }
+}

@@ -1,15 +1,21 @@
 //! `heapless::Vec` and `heapless::String`: a list and a text of bounded length.
 
 use std::fmt;
+use std::mem::MaybeUninit;
 use std::ops::{Deref, DerefMut};
+use std::slice;
 
-/// At most `N` items; `push` gives the item back when there is no room.
-pub struct Vec<T, const N: usize>(std::vec::Vec<T>);
+/// At most `N` items, which lie in it and not on the heap; `push` gives the item back when there
+/// is no room.
+pub struct Vec<T, const N: usize> {
+    length: usize,
+    items: [MaybeUninit<T>; N],
+}
 
-impl<T, const N: usize> Vec<T, N> {
+impl<T: Copy, const N: usize> Vec<T, N> {
     #[expect(clippy::new_without_default, reason = "only what the module uses")]
     pub fn new() -> Self {
-        Vec(std::vec::Vec::with_capacity(N))
+        Vec { length: 0, items: [MaybeUninit::uninit(); N] }
     }
 
     pub fn capacity(&self) -> usize {
@@ -17,25 +23,39 @@ impl<T, const N: usize> Vec<T, N> {
     }
 
     pub fn push(&mut self, item: T) -> Result<(), T> {
-        if self.0.len() == N {
-            return Err(item);
+        match self.items.get_mut(self.length) {
+            None => Err(item),
+            Some(slot) => {
+                slot.write(item);
+                self.length += 1;
+                Ok(())
+            }
         }
-        self.0.push(item);
-        Ok(())
     }
 
     pub fn clear(&mut self) {
-        self.0.clear();
+        self.length = 0;
     }
 
     /// The last item takes the place of the removed one.
     pub fn swap_remove(&mut self, index: usize) -> T {
-        self.0.swap_remove(index)
+        let last = self.len() - 1;
+        self.swap(index, last);
+        let removed = self[last];
+        self.length = last;
+        removed
     }
 
     /// Those that `keep` accepts remain, in order.
-    pub fn retain(&mut self, keep: impl FnMut(&T) -> bool) {
-        self.0.retain(keep);
+    pub fn retain(&mut self, mut keep: impl FnMut(&T) -> bool) {
+        let mut kept = 0;
+        for i in 0..self.len() {
+            if keep(&self[i]) {
+                self[kept] = self[i];
+                kept += 1;
+            }
+        }
+        self.length = kept;
     }
 }
 
@@ -43,13 +63,15 @@ impl<T, const N: usize> Deref for Vec<T, N> {
     type Target = [T];
 
     fn deref(&self) -> &[T] {
-        &self.0
+        // SAFETY: the first `length` items, at most N, have been written.
+        unsafe { slice::from_raw_parts(self.items.as_ptr().cast(), self.length) }
     }
 }
 
 impl<T, const N: usize> DerefMut for Vec<T, N> {
     fn deref_mut(&mut self) -> &mut [T] {
-        &mut self.0
+        // SAFETY: as above.
+        unsafe { slice::from_raw_parts_mut(self.items.as_mut_ptr().cast(), self.length) }
     }
 }
 
