@@ -1,0 +1,70 @@
+// The port's exports, called by pointers. A state goes in by value, which is a copy; a state that
+// comes out is written where `out` points, as the backend has it on every machine. `run` lowers this
+// file for x86-64, as the port's bitcode is, and then compiles both for the machine that it runs on.
+typedef unsigned char u8;
+typedef unsigned short u16;
+typedef unsigned int u32;
+typedef unsigned long usize;
+
+typedef struct {
+    usize words[904 / 8];
+} Mine;
+
+typedef struct {
+    usize words[2160 / 8];
+} Cutter;
+
+typedef struct {
+    u8 refusal;
+    u16 black, claimed, line, share;
+} Ground;
+
+#define RULE(Game, name)                                                                           \
+    void *name(Game *out, Game in);                                                                \
+    void by_##name(const Game *in, Game *out) { name(out, *in); }
+
+#define NUMBER(Game, Result, name)                                                                 \
+    Result name(Game in);                                                                          \
+    Result by_##name(const Game *in) { return name(*in); }
+
+#define PICTURE(Game, name)                                                                        \
+    void name(Game in, u8 *frame, usize length);                                                   \
+    void by_##name(const Game *in, u8 *frame, usize length) { name(*in, frame, length); }
+
+RULE(Mine, copy_mine)
+RULE(Mine, rule_mine_gravity)
+RULE(Mine, rule_mine_tick)
+RULE(Cutter, copy_cutter)
+RULE(Cutter, rule_cutter_step)
+RULE(Cutter, rule_cutter_tick)
+RULE(Cutter, rule_cutter_respawn)
+
+NUMBER(Mine, u8, check_mine)
+NUMBER(Cutter, u8, check_cutter)
+NUMBER(Cutter, usize, rule_cutter_walk)
+NUMBER(Cutter, Ground, call_cutter_ground)
+
+PICTURE(Mine, rule_mine_picture)
+PICTURE(Cutter, rule_cutter_picture)
+
+void *rule_mine_load(Mine *out);
+void by_rule_mine_load(Mine *out) { rule_mine_load(out); }
+
+void *rule_mine_step(Mine *out, Mine in, u8 dir);
+void by_rule_mine_step(const Mine *in, u8 dir, Mine *out) { rule_mine_step(out, *in, dir); }
+
+void *call_mine_pass(Mine *out, Mine in, const u8 *keys, usize n, u32 time, u32 first, u32 second);
+void by_call_mine_pass(const Mine *in, const u8 *keys, usize n, u32 time, Mine *out) {
+    call_mine_pass(out, *in, keys, n, time, 0, 0);
+}
+
+void *rule_cutter_level(Cutter *out, Cutter in, const u8 *draws, usize n);
+void by_rule_cutter_level(const Cutter *in, const u8 *draws, usize n, Cutter *out) {
+    rule_cutter_level(out, *in, draws, n);
+}
+
+void *call_cutter_pass(Cutter *out, Cutter in, const u8 *keys, usize n, const u8 *draws, usize k,
+                       u32 time, u32 first, u32 second);
+void by_call_cutter_pass(const Cutter *in, const u8 *keys, usize n, u32 time, Cutter *out) {
+    call_cutter_pass(out, *in, keys, n, keys, 0, time, 0, 0);
+}

@@ -1,0 +1,151 @@
+//! Block Cutter.
+
+use std::hint::black_box;
+
+use oracle::games::cutter::Held;
+use oracle::make::cutter_states;
+use oracle::rng::Rng;
+use oracle::stand_ins::catcard_app::{screen::FRAME, sys};
+use oracle::stand_ins::device;
+use oracle::state::{CW, Cutter, Pace};
+
+use crate::clock::Pair;
+use crate::table::{Aim, Table};
+use crate::{KEYS, LATE, ours, states};
+
+pub fn rows(table: &Table) {
+    let copies = copies(table);
+    let counted = |what: &str, aim, ours: fn(&Cutter)| {
+        let rust = |_: &_, g: &mut Held| _ = black_box(g.black_count());
+        table.row(what, table.0.pair(&states::cut(), Held::of, rust, ours), aim);
+    };
+    counted("check of Cutter states, against black_count", Aim::Times(1.0), |c| {
+        black_box(ours::cutter_check(c));
+    });
+    for n in [2, 8, 16] {
+        let what = format!("Cutter creature tick, {n}");
+        rule(
+            table,
+            &what,
+            Aim::Times(1.0),
+            &states::fresh(n),
+            Held::step_enemies,
+            ours::cutter_tick,
+        );
+    }
+    let step = |what: &str, aim, states: &[Cutter]| {
+        rule(table, what, aim, states, Held::step_player, ours::cutter_step);
+    };
+    step("step on the border", Aim::More(copies), &states::on_border());
+    step("step laying line", Aim::More(copies), &states::laying());
+    step("closing a middle cut", Aim::Times(1.0), &states::middle());
+    step("closing with 63 pockets and a large region", Aim::Times(1.0), &states::pockets());
+    step("closing with 400 regions of a cell", Aim::Times(1.0), &states::chequers(400));
+    walk(table);
+    rule(table, "respawn", Aim::None, &states::laying(), Held::respawn, ours::cutter_respawn);
+    fresh_level(table, 1);
+    fresh_level(table, 16);
+    picture(table);
+    for n in [2, 8, 16] {
+        pass(table, &format!("Cutter pass, both ticks, {n} creatures"), &states::fresh(n));
+    }
+    counted("ground report, against black_count", Aim::None, |c| {
+        black_box(ours::cutter_ground(c));
+    });
+}
+
+fn rule(
+    table: &Table,
+    what: &str,
+    aim: Aim,
+    states: &[Cutter],
+    rust: fn(&mut Held),
+    ours: fn(&Cutter, &mut Cutter),
+) {
+    table.rule(what, aim, states, Held::of, |_, g| rust(g), Held::state, ours);
+}
+
+/// The copies of a state in and out, in nanoseconds.
+fn copies(table: &Table) -> f64 {
+    let states = states::cut();
+    let mut out = states[0].clone();
+    let pair = table.0.pair(
+        &states,
+        Cutter::clone,
+        |s, g| g.clone_from(s),
+        |s| {
+            ours::cutter_copy(s, &mut out);
+            black_box(&mut out);
+        },
+    );
+    table.row("a Cutter state copied once; in and out of a call", pair, Aim::None);
+    pair.ours
+}
+
+fn walk(table: &Table) {
+    let rust = |g: &mut Held| g.move_to_border();
+    let ours = |c: &Cutter| ours::cutter_walk(c);
+    let states = states::far();
+    for c in &states {
+        let mut held = Held::of(c);
+        rust(&mut held);
+        let Cutter { px, py, .. } = held.state();
+        assert_eq!(py * CW + px, ours(c), "walk");
+    }
+    let pair = table.0.pair(&states, Held::of, |_, g| rust(g), |c| _ = black_box(ours(c)));
+    table.row("the walk at its worst", pair, Aim::Times(1.0));
+}
+
+/// The original's draws come from the scripted device; what they take there is left out.
+fn fresh_level(table: &Table, n: u32) {
+    let states = states::fresh(n);
+    let draws = cutter_states::draws(n, &mut Rng::new(5));
+    let all = draws.repeat(states.len());
+    let mut out = states[0].clone();
+    let mut held = Held::of(&states[0]);
+    device::run(0, &[], &draws, || held.new_level());
+    ours::cutter_level(&states[0], &draws, &mut out);
+    assert_eq!(held.state(), out, "fresh level");
+
+    let hold = |_: &()| states.iter().map(Held::of).collect::<Vec<_>>();
+    let levels = |_: &(), games: &mut Vec<Held>| {
+        device::run(0, &[], &all, || games.iter_mut().for_each(|g| black_box(g).new_level()));
+    };
+    let with = table.0.pair(&[()], hold, levels, |_| {
+        for c in &states {
+            ours::cutter_level(black_box(c), &draws, &mut out);
+            black_box(&mut out);
+        }
+    });
+    let drawn = |_: &(), _: &mut ()| {
+        device::run(0, &[], &all, || {
+            for _ in 0..all.len() {
+                black_box(sys::below(black_box(2)));
+            }
+        });
+    };
+    let without = table.0.pair(&[()], |_| (), drawn, |_| ());
+    let each = |batch: f64| batch / states.len() as f64;
+    let pair = Pair { rust: each(with.rust - without.rust), ours: each(with.ours) };
+    table.row(&format!("fresh level, {n} creatures"), pair, Aim::None);
+}
+
+fn picture(table: &Table) {
+    let rust = |g: &mut Held| {
+        let mut frame = [0; FRAME];
+        g.render(&mut frame);
+        frame
+    };
+    let ours = |c: &Cutter| {
+        let mut frame = [0; FRAME];
+        ours::cutter_picture(c, &mut frame);
+        frame
+    };
+    table.answer("Cutter picture", Aim::Times(1.0), &states::cut(), Held::of, rust, ours);
+}
+
+fn pass(table: &Table, what: &str, states: &[Cutter]) {
+    let rust = |_: &Cutter, g: &mut Held| _ = g.pass(&KEYS, &[], LATE, &mut Pace::start(0));
+    let ours = |c: &Cutter, out: &mut Cutter| ours::cutter_pass(c, &KEYS, LATE, out);
+    table.rule(what, Aim::Times(1.0), states, Held::of, rust, Held::state, ours);
+}

@@ -1,0 +1,94 @@
+//! Block Mine.
+
+use std::hint::black_box;
+
+use oracle::games::{cutter, mine::Held};
+use oracle::stand_ins::catcard_app::screen::FRAME;
+use oracle::state::{Cutter, Mine, Pace};
+
+use crate::table::{Aim, Table};
+use crate::{KEYS, LATE, ours, states};
+
+pub fn rows(table: &Table) {
+    let copies = copies(table);
+    check(table);
+    load(table);
+    let moves = states::moves();
+    table.rule(
+        "move",
+        Aim::More(copies),
+        &moves,
+        |s| Held::of(&s.0),
+        |s, g| g.step_player(s.1),
+        Held::state,
+        |s, out| ours::mine_step(&s.0, s.1, out),
+    );
+    let rule = |what: &str, states: &[Mine], rust: fn(&mut Held), ours: fn(&Mine, &mut Mine)| {
+        table.rule(what, Aim::Times(1.0), states, Held::of, |_, g| rust(g), Held::state, ours);
+    };
+    rule("gravity, loaded", &states::loaded(), Held::gravity, ours::mine_gravity);
+    rule("gravity, busy", &states::busy(), Held::gravity, ours::mine_gravity);
+    rule("Mine creature tick, 2", &states::tunnels(2), Held::move_enemies, ours::mine_tick);
+    rule("Mine creature tick, 8", &states::tunnels(8), Held::move_enemies, ours::mine_tick);
+    picture(table);
+    pass(table, "Mine pass, both ticks, loaded", &states::loaded());
+    pass(table, "Mine pass, both ticks, 8 creatures in tunnels", &states::tunnels(8));
+}
+
+/// The copies of a state in and out, in nanoseconds.
+fn copies(table: &Table) -> f64 {
+    let states = states::loaded();
+    let mut out = states[0].clone();
+    let pair = table.0.pair(
+        &states,
+        Mine::clone,
+        |s, g| g.clone_from(s),
+        |s| {
+            ours::mine_copy(s, &mut out);
+            black_box(&mut out);
+        },
+    );
+    table.row("a Mine state copied once; in and out of a call", pair, Aim::None);
+    pair.ours
+}
+
+fn check(table: &Table) {
+    let mines = states::moves().into_iter().map(|(m, _)| m);
+    let states: Vec<(Mine, Cutter)> = mines.zip(states::cut()).collect();
+    let hold = |s: &(Mine, Cutter)| cutter::Held::of(&s.1);
+    let rust = |_: &_, g: &mut cutter::Held| _ = black_box(g.black_count());
+    let pair = table.0.pair(&states, hold, rust, |s| {
+        black_box(ours::mine_check(&s.0));
+    });
+    table.row("check of Mine states, against black_count", pair, Aim::Times(0.5));
+}
+
+fn load(table: &Table) {
+    let rust = |_: &(), g: &mut Held| *g = Held::load();
+    let ours = |_: &(), out: &mut Mine| ours::mine_load(out);
+    table.rule("load", Aim::None, &[(); 16], |_| Held::load(), rust, Held::state, ours);
+}
+
+/// The original also writes the text above its picture, which is not drawn.
+fn picture(table: &Table) {
+    let states: Vec<Mine> = states::moves().into_iter().map(|(m, _)| m).collect();
+    let mut texts = Vec::new();
+    let rust = |g: &mut Held| {
+        let mut frame = [0; FRAME];
+        texts.clear();
+        g.render(&mut frame, &mut texts);
+        frame
+    };
+    let ours = |m: &Mine| {
+        let mut frame = [0; FRAME];
+        ours::mine_picture(m, &mut frame);
+        frame
+    };
+    table.answer("Mine picture", Aim::Times(1.0), &states, Held::of, rust, ours);
+}
+
+fn pass(table: &Table, what: &str, states: &[Mine]) {
+    let rust = |_: &Mine, g: &mut Held| _ = g.pass(&KEYS, LATE, &mut Pace::start(0));
+    let ours = |m: &Mine, out: &mut Mine| ours::mine_pass(m, &KEYS, LATE, out);
+    table.rule(what, Aim::Times(1.5), states, Held::of, rust, Held::state, ours);
+}

@@ -1,0 +1,71 @@
+//! The port's functions, by the pointers of `calls.c`.
+
+use oracle::state::{Cutter, Mine};
+
+/// The ground report.
+#[repr(C)]
+#[derive(Debug)]
+pub struct Ground {
+    pub refusal: u8,
+    pub black: u16,
+    pub claimed: u16,
+    pub line: u16,
+    pub share: u16,
+}
+
+macro_rules! calls {
+    ($($name:ident: $call:ident($($word:ident: $type:ty),*) $(-> $result:ty)?;)*) => {
+        unsafe extern "C" {
+            $(safe fn $call($($word: $type),*) $(-> $result)?;)*
+        }
+        $(pub fn $name($($word: $type),*) $(-> $result)? {
+            $call($($word),*)
+        })*
+    };
+}
+
+calls! {
+    mine_copy: by_copy_mine(m: &Mine, out: &mut Mine);
+    mine_check: by_check_mine(m: &Mine) -> u8;
+    mine_load: by_rule_mine_load(out: &mut Mine);
+    mine_gravity: by_rule_mine_gravity(m: &Mine, out: &mut Mine);
+    mine_tick: by_rule_mine_tick(m: &Mine, out: &mut Mine);
+    mine_step: by_rule_mine_step(m: &Mine, dir: u8, out: &mut Mine);
+    cutter_copy: by_copy_cutter(c: &Cutter, out: &mut Cutter);
+    cutter_check: by_check_cutter(c: &Cutter) -> u8;
+    cutter_step: by_rule_cutter_step(c: &Cutter, out: &mut Cutter);
+    cutter_tick: by_rule_cutter_tick(c: &Cutter, out: &mut Cutter);
+    cutter_respawn: by_rule_cutter_respawn(c: &Cutter, out: &mut Cutter);
+    cutter_walk: by_rule_cutter_walk(c: &Cutter) -> usize;
+    cutter_ground: by_call_cutter_ground(c: &Cutter) -> Ground;
+}
+
+unsafe extern "C" {
+    fn by_rule_mine_picture(m: &Mine, frame: *mut u8, length: usize);
+    fn by_rule_cutter_picture(c: &Cutter, frame: *mut u8, length: usize);
+    fn by_call_mine_pass(m: &Mine, keys: *const u8, n: usize, time: u32, out: &mut Mine);
+    fn by_call_cutter_pass(c: &Cutter, keys: *const u8, n: usize, time: u32, out: &mut Cutter);
+    fn by_rule_cutter_level(c: &Cutter, draws: *const u8, n: usize, out: &mut Cutter);
+}
+
+// SAFETY, of each below: a pointer goes with the length of its slice.
+
+pub fn mine_picture(m: &Mine, frame: &mut [u8]) {
+    unsafe { by_rule_mine_picture(m, frame.as_mut_ptr(), frame.len()) }
+}
+
+pub fn cutter_picture(c: &Cutter, frame: &mut [u8]) {
+    unsafe { by_rule_cutter_picture(c, frame.as_mut_ptr(), frame.len()) }
+}
+
+pub fn mine_pass(m: &Mine, keys: &[u8], time: u32, out: &mut Mine) {
+    unsafe { by_call_mine_pass(m, keys.as_ptr(), keys.len(), time, out) }
+}
+
+pub fn cutter_pass(c: &Cutter, keys: &[u8], time: u32, out: &mut Cutter) {
+    unsafe { by_call_cutter_pass(c, keys.as_ptr(), keys.len(), time, out) }
+}
+
+pub fn cutter_level(c: &Cutter, draws: &[u8], out: &mut Cutter) {
+    unsafe { by_rule_cutter_level(c, draws.as_ptr(), draws.len(), out) }
+}

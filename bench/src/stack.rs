@@ -1,0 +1,56 @@
+//! The stack that a call takes: painted before the call, looked through after it.
+
+use std::thread;
+
+use oracle::state::Cutter;
+
+use crate::{ours, states};
+
+const PAINT: u8 = 165;
+const PAINTED: usize = 64 * 1024;
+const STACK: usize = 1024 * 1024;
+
+/// How deep a call went below its caller, and how many bytes of that it wrote.
+struct Used {
+    deep: usize,
+    written: usize,
+}
+
+#[inline(never)]
+fn used(call: impl FnOnce()) -> Used {
+    let here = 0u8;
+    let top = &raw const here as usize;
+    // Below this function's own frame nothing lives until it calls.
+    let own = 512;
+    let bottom = top - PAINTED;
+    for at in bottom..top - own {
+        unsafe { (at as *mut u8).write_volatile(PAINT) };
+    }
+    call();
+    let touched = |at: &usize| unsafe { (*at as *const u8).read_volatile() } != PAINT;
+    let deepest = (bottom..top - own).find(touched).unwrap_or(top);
+    Used { deep: top - deepest, written: (bottom..top - own).filter(touched).count() }
+}
+
+fn on_thread(state: Cutter, call: fn(&Cutter, &mut Cutter)) -> Used {
+    let run = move || {
+        let mut out = state.clone();
+        used(|| call(&state, &mut out))
+    };
+    thread::Builder::new().stack_size(STACK).spawn(run).expect("a thread").join().expect("a call")
+}
+
+pub fn rows() {
+    println!("| Cutter call | stack below it, bytes | of them written |");
+    println!("|---|---|---|");
+    let calls: [(&str, Cutter, fn(&Cutter, &mut Cutter)); 4] = [
+        ("copied in and out", states::middle().remove(0), ours::cutter_copy),
+        ("step laying line", states::laying().remove(0), ours::cutter_step),
+        ("closing a middle cut", states::middle().remove(0), ours::cutter_step),
+        ("the walk at its worst", states::far().remove(0), |c, _| _ = ours::cutter_walk(c)),
+    ];
+    for (what, state, call) in calls {
+        let Used { deep, written } = on_thread(state, call);
+        println!("| {what} | {deep} | {written} |");
+    }
+}
