@@ -32,7 +32,9 @@ fn used(call: impl FnOnce()) -> Used {
     Used { deep: top - deepest, written: (bottom..top - own).filter(touched).count() }
 }
 
-fn on_thread(state: Cutter, call: fn(&Cutter, &mut Cutter)) -> Used {
+type Call = fn(&Cutter, &mut Cutter);
+
+fn on_thread(state: Cutter, call: Call) -> Used {
     let run = move || {
         let mut out = state.clone();
         used(|| call(&state, &mut out))
@@ -43,7 +45,7 @@ fn on_thread(state: Cutter, call: fn(&Cutter, &mut Cutter)) -> Used {
 pub fn rows() {
     println!("| Cutter call | stack below it, bytes | of them written |");
     println!("|---|---|---|");
-    let calls: [(&str, Cutter, fn(&Cutter, &mut Cutter)); 4] = [
+    let calls: [(&str, Cutter, Call); 4] = [
         ("copied in and out", states::middle().remove(0), ours::cutter_copy),
         ("step laying line", states::laying().remove(0), ours::cutter_step),
         ("closing a middle cut", states::middle().remove(0), ours::cutter_step),

@@ -38,6 +38,7 @@ impl Table {
     }
 
     /// A rule that the original plays in place and the port by value. Both must give the same.
+    #[expect(clippy::too_many_arguments, reason = "each is one word of a row")]
     pub fn rule<S, G, T: Clone + PartialEq + Debug>(
         &self,
         what: &str,
