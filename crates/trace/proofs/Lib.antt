@@ -1,0 +1,4 @@
+pub mod Words
+pub mod Lays
+pub mod Runs
+pub mod Signs

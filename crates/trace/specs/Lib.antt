@@ -1,0 +1,4 @@
+pub mod Numbers
+pub mod Lays
+pub mod Mines
+pub mod Cutters

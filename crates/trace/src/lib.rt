@@ -1,0 +1,20 @@
+// States as the bytes of a trace: every field in the order of the struct, at the full width of its
+// type, low byte first, all creature slots included, then the two clock marks.
+mod cutters;
+mod mines;
+mod numbers;
+
+pub use cutters::CUTTER;
+pub use cutters::cutter_of;
+pub use cutters::mover_of;
+pub use cutters::put_cutter;
+pub use mines::MINE;
+pub use mines::enemy_of;
+pub use mines::mine_of;
+pub use mines::put_mine;
+pub use numbers::MARK;
+pub use numbers::PLACE;
+pub use numbers::fill;
+pub use numbers::put_cells;
+pub use numbers::put_word;
+pub use numbers::word;
