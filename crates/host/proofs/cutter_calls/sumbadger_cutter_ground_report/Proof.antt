@@ -1,0 +1,37 @@
+-- `host::sumbadger_cutter_ground_report` meets its contract. Assumes nothing.
+use mathlib.Core.Path.{ap, _∙_}
+use borrow.Author.Needs.{needs}
+use Rattle.refusal.proofs.Calls.{turned-away, let-in}
+use Rattle.cutter.specs.Calls.{reportCall, unreported}
+use Rattle.host_state.specs.Cutter.{gameOf}
+use Rattle.host.proofs.cutter_calls.sumbadger_cutter_ground_report.Statement.{statement}
+use Rattle.host.proofs.cutter_calls.sumbadger_cutter_ground_report.Tie as tie
+
+cutter-flags-requires : tie.Need-cutter-flags-requires
+cutter-flags-requires c κs = search needs
+
+returns : tie.Need-returns
+returns c = turned-away unreported _ (c .before .cutter-flags .ensures) (c .if1 .taken)
+
+cutter-game-requires : tie.Need-cutter-game-requires
+cutter-game-requires c κs = search needs
+
+ground-report-requires : tie.Need-ground-report-requires
+ground-report-requires c κs = search needs
+
+returns-2 : tie.Need-returns-2
+returns-2 c =
+    let f = c .before .before .before in
+    let-in unreported (reportCall (gameOf (f .before .args .h))) (f .cutter-flags .ensures)
+    (c .ground-report .ensures ∙ ap reportCall (c .before .cutter-game .ensures))
+    (c .before .before .if1 .left)
+
+pub sumbadger-cutter-ground-report-spec : {M : Type 1} → statement M
+sumbadger-cutter-ground-report-spec =
+    tie.close
+    (tie.spec
+    cutter-flags-requires
+    returns
+    cutter-game-requires
+    ground-report-requires
+    returns-2)

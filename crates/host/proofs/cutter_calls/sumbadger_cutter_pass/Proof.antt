@@ -1,0 +1,55 @@
+-- `host::sumbadger_cutter_pass` meets its contract. Assumes nothing.
+use mathlib.Core.Path.{ap, _∙_}
+use borrow.Author.Needs.{needs}
+use Rattle.refusal.proofs.Calls.{turned-away, let-in}
+use Rattle.cutter_state.specs.declared.Cutter.{Cutter}
+use Rattle.cutter_pass.specs.declared.CutterTurn.{CutterTurn}
+use Rattle.cutter_pass.specs.Pass.{passAt}
+use Rattle.host_state.specs.Cutter.{gameOf}
+use Rattle.host.specs.Cutter.{turnOut, refusedPass, hostedPass}
+use Rattle.host.proofs.cutter_calls.sumbadger_cutter_pass.Statement.{statement}
+use Rattle.host.proofs.cutter_calls.sumbadger_cutter_pass.Tie as tie
+
+cutter-flags-requires : tie.Need-cutter-flags-requires
+cutter-flags-requires c κs = search needs
+
+number-requires : tie.Need-number-requires
+number-requires c κs = search needs
+
+returns : tie.Need-returns
+unfolding hostedPass
+returns c =
+    let f = c .before .before in
+    let a = f .before .before .before .args in
+    rw (c .number .ensures) (turned-away (refusedPass (a .h) (a .marks)) _ (f .cutter-flags .ensures) (c .before .if1 .taken))
+
+cutter-game-requires : tie.Need-cutter-game-requires
+cutter-game-requires c κs = search needs
+
+pass-marks-requires : tie.Need-pass-marks-requires
+pass-marks-requires c κs = search needs
+
+turn-out-requires : tie.Need-turn-out-requires
+turn-out-requires c κs = search needs
+
+returns-2 : tie.Need-returns-2
+unfolding hostedPass
+returns-2 c =
+    let f = c .before .before .before .before in
+    let a = f .before .before .before .args in
+    let call : Cutter → CutterTurn = λ s. passAt s (a .keys .now) (a .draws .now) (a .time) (a .marks .first) (a .marks .second) in
+    let-in (refusedPass (a .h) (a .marks)) (turnOut (call (gameOf (a .h)))) (f .cutter-flags .ensures)
+    (c .turn-out .ensures ∙ ap turnOut (c .before .pass-marks .ensures ∙ ap call (c .before .before .cutter-game .ensures)))
+    (c .before .before .before .if1 .left)
+
+pub sumbadger-cutter-pass-spec : {M : Type 1} → statement M
+sumbadger-cutter-pass-spec =
+    tie.close
+    (tie.spec
+    cutter-flags-requires
+    number-requires
+    returns
+    cutter-game-requires
+    pass-marks-requires
+    turn-out-requires
+    returns-2)

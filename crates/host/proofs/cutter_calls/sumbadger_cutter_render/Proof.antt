@@ -1,0 +1,47 @@
+-- `host::sumbadger_cutter_render` meets its contract. Assumes nothing.
+use mathlib.Core.Path.{ap, _∙_}
+use Prim.Native.Nat.{ℕ}
+use borrow.Author.Needs.{needs}
+use Rattle.refusal.proofs.Calls.{turned-away, let-in}
+use Rattle.cutter_state.specs.declared.Cutter.{Cutter}
+use Rattle.cutter.specs.Picture.{pictureOf}
+use Rattle.host_state.specs.Cutter.{gameOf}
+use Rattle.host.proofs.cutter_calls.sumbadger_cutter_render.Statement.{statement}
+use Rattle.host.proofs.cutter_calls.sumbadger_cutter_render.Tie as tie
+
+cutter-flags-requires : tie.Need-cutter-flags-requires
+cutter-flags-requires c κs = search needs
+
+returns : tie.Need-returns
+returns c =
+    let l = c .before .before .before .args .frame .now in
+    turned-away (λ (n : ℕ). (n, l)) _ (c .before .cutter-flags .ensures) (c .if1 .taken)
+
+cutter-game-requires : tie.Need-cutter-game-requires
+cutter-game-requires c κs = search needs
+
+render-requires : tie.Need-render-requires
+render-requires c κs = search needs
+
+same-length : tie.Need-same-length
+same-length c = search needs
+
+returns-2 : tie.Need-returns-2
+returns-2 c =
+    let k = c .before .before .before .before in
+    let a = k .before .before .before .before .args in
+    let l = a .frame .now in
+    let-in (λ (n : ℕ). (n, l)) (pictureOf (gameOf (a .h)) l) (k .before .before .cutter-flags .ensures)
+    (c .before .before .render .ensures ∙ ap (λ (s : Cutter). pictureOf s l) (k .cutter-game .ensures))
+    (k .before .if1 .left)
+
+pub sumbadger-cutter-render-spec : {M : Type 1} → statement M
+sumbadger-cutter-render-spec =
+    tie.close
+    (tie.spec
+    cutter-flags-requires
+    returns
+    cutter-game-requires
+    render-requires
+    same-length
+    returns-2)

@@ -1,0 +1,18 @@
+-- `host::sumbadger_mine_load` meets its contract. Assumes nothing.
+use mathlib.Core.Path.{ap, _∙_}
+use borrow.Author.Needs.{needs}
+use Rattle.host_state.specs.Mine.{hostOf}
+use Rattle.host.proofs.mine_calls.sumbadger_mine_load.Statement.{statement}
+use Rattle.host.proofs.mine_calls.sumbadger_mine_load.Tie as tie
+
+load-requires : tie.Need-load-requires
+load-requires c κs = search needs
+
+mine-host-requires : tie.Need-mine-host-requires
+mine-host-requires c κs = search needs
+
+returns : tie.Need-returns
+returns c = c .mine-host .ensures ∙ ap hostOf (c .before .load .ensures)
+
+pub sumbadger-mine-load-spec : {M : Type 1} → statement M
+sumbadger-mine-load-spec = tie.close (tie.spec load-requires mine-host-requires returns)

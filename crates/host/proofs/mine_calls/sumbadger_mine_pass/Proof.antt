@@ -1,0 +1,55 @@
+-- `host::sumbadger_mine_pass` meets its contract. Assumes nothing.
+use mathlib.Core.Path.{ap, _∙_}
+use borrow.Author.Needs.{needs}
+use Rattle.refusal.proofs.Calls.{turned-away, let-in}
+use Rattle.mine_state.specs.declared.Mine.{Mine}
+use Rattle.mine_pass.specs.declared.MineTurn.{MineTurn}
+use Rattle.mine_pass.specs.Pass.{passAt}
+use Rattle.host_state.specs.Mine.{gameOf}
+use Rattle.host.specs.Mine.{turnOut, refusedPass, hostedPass}
+use Rattle.host.proofs.mine_calls.sumbadger_mine_pass.Statement.{statement}
+use Rattle.host.proofs.mine_calls.sumbadger_mine_pass.Tie as tie
+
+mine-flags-requires : tie.Need-mine-flags-requires
+mine-flags-requires c κs = search needs
+
+number-requires : tie.Need-number-requires
+number-requires c κs = search needs
+
+returns : tie.Need-returns
+unfolding hostedPass
+returns c =
+    let f = c .before .before in
+    let a = f .before .before .args in
+    rw (c .number .ensures) (turned-away (refusedPass (a .h) (a .marks)) _ (f .mine-flags .ensures) (c .before .if1 .taken))
+
+mine-game-requires : tie.Need-mine-game-requires
+mine-game-requires c κs = search needs
+
+pass-marks-requires : tie.Need-pass-marks-requires
+pass-marks-requires c κs = search needs
+
+turn-out-requires : tie.Need-turn-out-requires
+turn-out-requires c κs = search needs
+
+returns-2 : tie.Need-returns-2
+unfolding hostedPass
+returns-2 c =
+    let f = c .before .before .before .before in
+    let a = f .before .before .args in
+    let call : Mine → MineTurn = λ s. passAt s (a .keys .now) (a .time) (a .marks .first) (a .marks .second) in
+    let-in (refusedPass (a .h) (a .marks)) (turnOut (call (gameOf (a .h)))) (f .mine-flags .ensures)
+    (c .turn-out .ensures ∙ ap turnOut (c .before .pass-marks .ensures ∙ ap call (c .before .before .mine-game .ensures)))
+    (c .before .before .before .if1 .left)
+
+pub sumbadger-mine-pass-spec : {M : Type 1} → statement M
+sumbadger-mine-pass-spec =
+    tie.close
+    (tie.spec
+    mine-flags-requires
+    number-requires
+    returns
+    mine-game-requires
+    pass-marks-requires
+    turn-out-requires
+    returns-2)

@@ -1,0 +1,47 @@
+-- `host::sumbadger_mine_render` meets its contract. Assumes nothing.
+use mathlib.Core.Path.{ap, _∙_}
+use Prim.Native.Nat.{ℕ}
+use borrow.Author.Needs.{needs}
+use Rattle.refusal.proofs.Calls.{turned-away, let-in}
+use Rattle.mine_state.specs.declared.Mine.{Mine}
+use Rattle.mine.specs.Picture.{pictureOf}
+use Rattle.host_state.specs.Mine.{gameOf}
+use Rattle.host.proofs.mine_calls.sumbadger_mine_render.Statement.{statement}
+use Rattle.host.proofs.mine_calls.sumbadger_mine_render.Tie as tie
+
+mine-flags-requires : tie.Need-mine-flags-requires
+mine-flags-requires c κs = search needs
+
+returns : tie.Need-returns
+returns c =
+    let l = c .before .before .before .args .frame .now in
+    turned-away (λ (n : ℕ). (n, l)) _ (c .before .mine-flags .ensures) (c .if1 .taken)
+
+mine-game-requires : tie.Need-mine-game-requires
+mine-game-requires c κs = search needs
+
+render-requires : tie.Need-render-requires
+render-requires c κs = search needs
+
+same-length : tie.Need-same-length
+same-length c = search needs
+
+returns-2 : tie.Need-returns-2
+returns-2 c =
+    let k = c .before .before .before .before in
+    let a = k .before .before .before .before .args in
+    let l = a .frame .now in
+    let-in (λ (n : ℕ). (n, l)) (pictureOf (gameOf (a .h)) l) (k .before .before .mine-flags .ensures)
+    (c .before .before .render .ensures ∙ ap (λ (s : Mine). pictureOf s l) (k .mine-game .ensures))
+    (k .before .if1 .left)
+
+pub sumbadger-mine-render-spec : {M : Type 1} → statement M
+sumbadger-mine-render-spec =
+    tie.close
+    (tie.spec
+    mine-flags-requires
+    returns
+    mine-game-requires
+    render-requires
+    same-length
+    returns-2)

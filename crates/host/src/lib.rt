@@ -1,0 +1,32 @@
+// The exports for C: every public call, with `#[repr(C)]` values, byte slices and numbers. include/sumbadger.h declares them.
+mod cutter_calls;
+mod mine_calls;
+mod plain_calls;
+
+pub use cutter_calls::HostCutterAnswer;
+pub use cutter_calls::HostCutterPassed;
+pub use cutter_calls::HostMovers;
+pub use cutter_calls::sumbadger_cutter_direction;
+pub use cutter_calls::sumbadger_cutter_ground_report;
+pub use cutter_calls::sumbadger_cutter_new_level;
+pub use cutter_calls::sumbadger_cutter_new_round;
+pub use cutter_calls::sumbadger_cutter_pass;
+pub use cutter_calls::sumbadger_cutter_render;
+pub use cutter_calls::sumbadger_cutter_respawn;
+pub use cutter_calls::sumbadger_cutter_step_enemies;
+pub use cutter_calls::sumbadger_cutter_step_player;
+pub use cutter_calls::sumbadger_cutter_who;
+pub use mine_calls::HostEnemies;
+pub use mine_calls::HostMineAnswer;
+pub use mine_calls::HostMinePassed;
+pub use mine_calls::sumbadger_mine_gravity;
+pub use mine_calls::sumbadger_mine_load;
+pub use mine_calls::sumbadger_mine_move_enemies;
+pub use mine_calls::sumbadger_mine_pass;
+pub use mine_calls::sumbadger_mine_render;
+pub use mine_calls::sumbadger_mine_step_player;
+pub use mine_calls::sumbadger_mine_who;
+pub use plain_calls::HostFound;
+pub use plain_calls::HostPage;
+pub use plain_calls::sumbadger_page;
+pub use plain_calls::sumbadger_start;

@@ -1,0 +1,50 @@
+-- `host_state::marks_ok` meets its contract. Assumes nothing.
+use mathlib.Core.Bool.{not, _&&_}
+use mathlib.Core.Path.{_≡_, refl}
+use Prim.Native.Nat.{_≤_, _-_}
+use native.Mathlib.Omega.{arith}
+use lib.Dec.{ltb}
+use lib.ListN.{getD, drop}
+use Rattle.laws.specs.Lists.{all}
+use Rattle.laws.proofs.Choice.{leb-not-ltb}
+use Rattle.laws.proofs.Lists.{drop-one, drop-end, flag-more, flag-end}
+use Rattle.mine_state.specs.State.{AREA}
+use Rattle.host_state.specs.Flags.{isFlag}
+use Rattle.host_state.proofs.mine_bytes.marks_ok.Statement.{statement}
+use Rattle.host_state.proofs.mine_bytes.marks_ok.Tie as tie
+
+abbrev Inv-loop : tie.InvT-loop
+Inv-loop marks bad₀ i₀ bad i = (i ≤ AREA) × ((not bad && all isFlag (drop i marks)) ≡ all isFlag marks)
+
+abbrev μ-loop : tie.MeasureT-loop
+μ-loop marks bad₀ i₀ bad i = AREA - i
+
+loop-holds : tie.Need-loop-holds Inv-loop μ-loop
+loop-holds c = (omega arith, refl)
+
+element-copy-out-bad : tie.Need-element-copy-out-bad Inv-loop μ-loop
+element-copy-out-bad c = omega (arith, c .before .before .pre)
+
+add-i : tie.Need-add-i Inv-loop μ-loop
+add-i c = omega arith
+
+loop-less : tie.Need-loop-less Inv-loop μ-loop
+loop-less c = omega arith
+
+loop-again : tie.Need-loop-again Inv-loop μ-loop
+loop-again c =
+    let k = c .before .before in
+    let l = k .before .args .marks .now in
+    let b = getD l (k .loop .i) 0 in
+    (omega arith, flag-more isFlag l (k .loop .i) (k .loop .bad) (ltb 1 b) (drop-one l (k .loop .i) 0 (omega (arith, k .before .pre))) (k .loop .inv .1) (leb-not-ltb b 1))
+
+returns : tie.Need-returns Inv-loop μ-loop
+returns c =
+    let k = c .before in
+    let l = k .before .args .marks .now in
+    flag-end isFlag l (k .loop .i) (k .loop .bad) (drop-end l (k .loop .i) (omega (arith, k .before .pre))) (k .loop .inv .1)
+
+pub marks-ok-spec : {M : Type 1} → statement M
+marks-ok-spec =
+    tie.close
+    (tie.spec Inv-loop μ-loop loop-holds element-copy-out-bad add-i loop-less loop-again returns)
