@@ -8,6 +8,7 @@ pub mod bytes;
 pub mod calls;
 pub mod check;
 pub mod games;
+pub mod host;
 pub mod lines;
 pub mod make;
 pub mod replay;
