@@ -1,8 +1,8 @@
 // The calls on a state: each checks it once, and refuses it or plays.
+use cutter_level::creatures_of;
+use cutter_level::draws_ok;
 use cutter_pass::INTERIOR;
 use cutter_rules::LEFT;
-use cutter_rules::creatures_of;
-use cutter_rules::draws_ok;
 use cutter_state::Cutter;
 use cutter_state::MAX_LIVES;
 use cutter_state::check;
@@ -73,7 +73,7 @@ pub fn new_round(draws: &[u8]) -> CutterAnswer
         c.lives = MAX_LIVES;
         return CutterAnswer {
             refusal: refusal::NONE,
-            game: cutter_rules::new_level(c, draws),
+            game: cutter_level::new_level(c, draws),
         };
     }
     CutterAnswer {
@@ -96,7 +96,7 @@ pub fn new_level(c: Cutter, draws: &[u8]) -> CutterAnswer
     if draws_ok(draws, creatures_of(c.level)) {
         return CutterAnswer {
             refusal: refusal::NONE,
-            game: cutter_rules::new_level(c, draws),
+            game: cutter_level::new_level(c, draws),
         };
     }
     CutterAnswer {
@@ -124,7 +124,7 @@ pub fn direction(c: Cutter, dir: u8) -> CutterAnswer
     }
     CutterAnswer {
         refusal: refusal::NONE,
-        game: cutter_rules::direction(c, dir),
+        game: cutter_moves::direction(c, dir),
     }
 }
 
@@ -141,7 +141,7 @@ pub fn step_player(c: Cutter) -> CutterAnswer
     }
     CutterAnswer {
         refusal: refusal::NONE,
-        game: cutter_rules::step_player(c),
+        game: cutter_moves::step_player(c),
     }
 }
 
@@ -158,7 +158,7 @@ pub fn step_enemies(c: Cutter) -> CutterAnswer
     }
     CutterAnswer {
         refusal: refusal::NONE,
-        game: cutter_rules::step_enemies(c),
+        game: cutter_moves::step_enemies(c),
     }
 }
 
@@ -175,7 +175,7 @@ pub fn respawn(c: Cutter) -> CutterAnswer
     }
     CutterAnswer {
         refusal: refusal::NONE,
-        game: cutter_rules::respawn(c),
+        game: cutter_moves::respawn(c),
     }
 }
 

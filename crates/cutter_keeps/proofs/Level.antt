@@ -9,13 +9,13 @@ use lib.Seq.{getD-append-add}
 use Rattle.laws.specs.Lists.{all, any, table, tally}
 use Rattle.laws.proofs.Below.{same-below}
 use Rattle.laws.proofs.Table.{length-table, all-table}
-use Rattle.ground.specs.Cells.{CW, CH, CN, CB-BLACK, CB-FILLED, CB-TRAIL, MAX-ENEMIES, cellAt}
+use Rattle.ground.specs.Cells.{CW, CH, CN, CB-BLACK, CB-FILLED, CB-TRAIL, cellAt}
 use Rattle.cutter_state.specs.declared.Cutter.{Cutter}
 use Rattle.cutter_state.specs.State.{place, holdsAt}
 use Rattle.cutter_state.specs.WellFormed.{MAX-LIVES, MAX-LEVEL, isCode, isTrail, rowsFilled, columnsFilled, isUnit, moverOk}
 use Rattle.cutter_state.proofs.Ring.{code-holds}
 use Rattle.cutter_rules.specs.Level.{edge, between, rows, freshGrid, creaturesOf, drawAt, inRange, drawsOk, velocity, drawn, atStart, freshLevel}
-use Rattle.cutter_rules.proofs.Draws.{place-fits, draws-each}
+use Rattle.cutter_rules.proofs.Draws.{creatures-few, place-fits, draws-fit}
 use Rattle.cutter_keeps.specs.Kept.{INNER, RING, Fresh}
 use Rattle.cutter_keeps.proofs.Creatures.{slots-length, slots-each, slots-rest}
 
@@ -84,7 +84,7 @@ pub level-fresh : (c : Cutter) (draws : List ℕ) → c .lives ≤ MAX-LIVES →
 unfolding freshLevel atStart
 level-fresh c draws h a b o =
     let n = creaturesOf (c .level) in
-    let few : n ≤ MAX-ENEMIES = omega arith in
+    let few = creatures-few (c .level) in
     let es = table n (drawn draws) in
     let len = length-table n (drawn draws) in
     record {
@@ -98,7 +98,7 @@ level-fresh c draws h a b o =
         direction = refl;
         slots = slots-length es n len few;
         few = few;
-        each = rw (slots-each es n len) (all-table (moverOk freshGrid) n (drawn draws) (λ k l. drawn-ok draws k (draws-each draws n k (record { few = few; fit = o }) l .fit)));
+        each = rw (slots-each es n len) (all-table (moverOk freshGrid) n (drawn draws) (λ k l. drawn-ok draws k (draws-fit draws n o k l)));
         rest = slots-rest es n len;
         lives = h;
         level = (a, b);

@@ -1,16 +1,16 @@
 // One turn of Block Cutter's loop: what is left of it when keys, clock, draws and record are numbers.
 use answer::Answer;
+use cutter_level::creatures_of;
+use cutter_level::draws_ok;
+use cutter_level::new_level;
+use cutter_moves::direction;
+use cutter_moves::respawn;
+use cutter_moves::step_enemies;
+use cutter_moves::step_player;
 use cutter_rules::DOWN;
 use cutter_rules::LEFT;
 use cutter_rules::RIGHT;
 use cutter_rules::UP;
-use cutter_rules::creatures_of;
-use cutter_rules::direction;
-use cutter_rules::draws_ok;
-use cutter_rules::new_level;
-use cutter_rules::respawn;
-use cutter_rules::step_enemies;
-use cutter_rules::step_player;
 use cutter_state::Cutter;
 use cutter_state::MAX_LEVEL;
 use cutter_state::check;

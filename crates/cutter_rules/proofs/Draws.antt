@@ -1,17 +1,21 @@
--- The draws of a level: what a range says, and lists of draws in range. Assumes nothing.
+-- The draws of a level: how many creatures, what a range says, and lists of draws in range. Assumes nothing.
 use mathlib.Core.Bool.{true, _&&_}
 use mathlib.Core.List.{List}
-use mathlib.Core.Path.{_≡_, refl}
-use Prim.Native.Nat.{ℕ, zero, suc, _*_, _<_}
-use native.Mathlib.Omega.{arith}
+use mathlib.Core.Path.{_≡_}
+use Prim.Native.Nat.{ℕ, _*_, _≤_, _<_}
+use native.Mathlib.Nat.{min-le-right}
 use lib.Dec.{eqb, ltb}
-use lib.IntN.{pos, negsuc}
 use lib.ListN.{length}
 use borrow.Author.Tests.{ltb-true, eqb-true}
 use Rattle.laws.specs.Lists.{allBelow}
 use Rattle.laws.proofs.Choice.{and-left, and-right}
 use Rattle.laws.proofs.Below.{at-below}
-use Rattle.cutter_rules.specs.Level.{DRAWS, drawAt, inRange, drawsOk, velocity, DrawsAt, DrawsFor}
+use Rattle.ground.specs.Cells.{MAX-ENEMIES}
+use Rattle.cutter_rules.specs.Level.{DRAWS, creaturesOf, drawAt, inRange, drawsOk}
+
+-- at most 16 creatures, whatever the level
+pub creatures-few : (level : ℕ) → creaturesOf level ≤ MAX-ENEMIES
+creatures-few level = min-le-right level MAX-ENEMIES
 
 -- places fit a byte
 pub place-fits : (draws : List ℕ) (i : ℕ) → inRange draws i ≡ true → (drawAt draws i 0 < 62) × (drawAt draws i 1 < 30)
@@ -23,23 +27,13 @@ place-fits draws i e =
     let h = and-left (a && b) c (and-left (a && b && c) (ltb (drawAt draws i 3) 2) e) in
     (ltb-true (drawAt draws i 0) 62 (and-left a b h), ltb-true (drawAt draws i 1) 30 (and-right a b h))
 
--- draws for n creatures have those of each
-pub draws-each : (draws : List ℕ) (n i : ℕ) → DrawsFor draws n → i < n → DrawsAt draws i
-unfolding drawsOk
-draws-each draws n i d h =
-    let t = d .fit in
-    let q = eqb-true (length draws) (DRAWS * n) (and-left (eqb (length draws) (DRAWS * n)) (allBelow n (inRange draws)) t) in
-    record {
-      there = omega arith;
-      fit = at-below n (inRange draws) (and-right (eqb (length draws) (DRAWS * n)) (allBelow n (inRange draws)) t) i h;
-    }
+module _ (draws : List ℕ) (n : ℕ) (fit : drawsOk draws n ≡ true) where
+  -- four for each of n creatures
+  pub draws-length : length draws ≡ DRAWS * n
+  unfolding drawsOk
+  draws-length = eqb-true (length draws) (DRAWS * n) (and-left (eqb (length draws) (DRAWS * n)) (allBelow n (inRange draws)) fit)
 
-pub velocity-none : (d : ℕ) → d ≡ 0 → negsuc 0 ≡ velocity d
-unfolding velocity
-velocity-none zero e = refl
-velocity-none (suc d) e = absurd (omega arith)
-
-pub velocity-some : (d : ℕ) → (d ≡ 0 → ⊥) → pos 1 ≡ velocity d
-unfolding velocity
-velocity-some zero e = absurd (e refl)
-velocity-some (suc d) e = refl
+  -- those of each are in range
+  pub draws-fit : (i : ℕ) → i < n → inRange draws i ≡ true
+  unfolding drawsOk
+  draws-fit = at-below n (inRange draws) (and-right (eqb (length draws) (DRAWS * n)) (allBelow n (inRange draws)) fit)

@@ -1,53 +1,26 @@
--- The player's step: directions, the cell ahead, and what a closing asks. Assumes nothing.
+-- The player's step, by what it finds on the way. Assumes nothing.
 use mathlib.Core.Bool.{Bool, true, false, cond}
-use mathlib.Core.List.{List}
-use mathlib.Core.Path.{_≡_, refl, sym, ap, _∙_}
-use Prim.Native.Nat.{ℕ, zero, suc, _≤_, _<_}
+use mathlib.Core.Path.{_≡_, sym, ap, _∙_}
+use Prim.Native.Nat.{ℕ, _/_, _%_, _≤_, _<_}
 use native.Mathlib.Omega.{arith}
-use lib.IntN.{pos, negsuc}
-use lib.ListN.{length}
-use borrow.Author.Tests.{lt-ltb, le-leb, lt-leb, eqb-true}
-use Rattle.laws.proofs.Lists.{all-weaken}
-use Rattle.joined.proofs.Joined.{black-in}
+use borrow.Author.Tests.{le-leb, lt-leb}
 use Rattle.found.specs.declared.Found.{Found}
 use Rattle.found.specs.declared.Found.the-variants.{At, Nobody}
-use Rattle.ground.specs.Cells.{CN, CB-BLACK, cellAt, cellOf}
-use Rattle.ground.specs.declared.Mover.{Mover}
-use Rattle.closing.specs.Steps.{inside, Closable}
+use Rattle.ground.specs.Cells.{CW, CN, onBorder}
+use Rattle.border.specs.Border.{toBorder}
 use Rattle.cutter_state.specs.declared.Cutter.{Cutter}
-use Rattle.cutter_state.specs.State.{creatures}
+use Rattle.cutter_state.specs.State.{place, creatures}
 use Rattle.cutter_state.specs.Change.{killed}
-use Rattle.cutter_state.specs.WellFormed.{moverOk, WellFormed}
-use Rattle.cutter_rules.specs.Tick.{creatureAt}
-use Rattle.cutter_rules.specs.Step.{unitX, unitY, noDirection, stopped, target, trailingStep, walkingStep, met, stepped}
-use Rattle.cutter_rules.proofs.Apart.{mover-black}
+use Rattle.cutter_rules.specs.Tick.{creatureAt, lineAt}
+use Rattle.cutter_rules.specs.Step.{noDirection, stopped, playerCell, target, claimedAt, cutClosed, atBorder, trailingStep, walkingStep, met, stepped}
 
--- past 2 the unit step is left
-pub left-else : (d : ℕ) → (d ≡ 0 → ⊥) → (d ≡ 1 → ⊥) → (d ≡ 2 → ⊥) → (unitX d ≡ negsuc 0) × (unitY d ≡ pos 0)
-unfolding unitX unitY
-left-else zero a b c = absurd (a refl)
-left-else (suc zero) a b c = absurd (b refl)
-left-else (suc (suc zero)) a b c = absurd (c refl)
-left-else (suc (suc (suc d))) a b c = (refl, refl)
-
--- a creature on black is on the grid
-inside-grid : (g : List ℕ) (e : Mover) → length g ≡ CN → moverOk g e ≡ true → inside e ≡ true
-inside-grid g e h m = lt-ltb (cellOf e) CN (omega (arith, black-in g (cellOf e) (eqb-true (cellAt g (cellOf e)) CB-BLACK (mover-black g e m))))
-
--- a well-formed state can be closed
-pub closable : (c : Cutter) → WellFormed c → Closable (c .enemies) (c .count)
-closable c w =
-    record {
-      few = w .few;
-      onGrid = all-weaken (moverOk (c .grid)) inside (λ e m. inside-grid (c .grid) e (w .cells) m) (creatures c) (w .each);
-    }
-
--- the step by what is found on the way
+-- no direction, nothing
 pub step-none : (c : Cutter) → noDirection c ≡ true → c ≡ stepped c
 unfolding stepped
 step-none c d = rw d
 
 module _ (c : Cutter) (d : noDirection c ≡ false) (t : ℕ) (e : t ≡ target c) where
+  -- off the grid, the direction clears
   pub step-off : CN ≤ t → stopped c ≡ stepped c
   unfolding stepped
   step-off h = rw (d, ← e, le-leb CN t h)
@@ -67,3 +40,16 @@ module _ (c : Cutter) (d : noDirection c ≡ false) (t : ℕ) (e : t ≡ target 
   pub step-walking : (f : Found) → t < CN → f ≡ creatureAt (creatures c) t → f ≡ Nobody → c .trailing ≡ false → walkingStep c t ≡ stepped c
   unfolding met
   step-walking f h q a b = ap (λ (x : Bool). cond x (trailingStep c t) (walkingStep c t)) (sym b) ∙ (rw a at (step-on f h q))
+
+-- claimed ground without black around it is not entered, and the direction clears
+pub inland-stops : (c : Cutter) (t : ℕ) → claimedAt (c .grid) t ≡ true → onBorder (c .grid) t ≡ false → walkingStep c t ≡ stopped c
+unfolding walkingStep
+inland-stops c t k b = rw (k, b)
+
+place-cell : (t : ℕ) → place (t % CW) (t / CW) ≡ t
+place-cell t = omega arith
+
+-- a step that closes leaves the player at the border of the ground that is left, by the walk from the cell that it entered
+pub closed-at-border : (c : Cutter) (t : ℕ) → lineAt (c .grid) t ≡ false → claimedAt (c .grid) t ≡ true → playerCell (trailingStep c t) ≡ toBorder (trailingStep c t .grid) t .at
+unfolding trailingStep atBorder cutClosed
+closed-at-border c t l k = rw (l, k, place-cell t) (place-cell _)

@@ -1,8 +1,7 @@
 -- Block Cutter: a fresh level, and the draws that it takes.
-use mathlib.Core.Bool.{Bool, true, false, _&&_}
+use mathlib.Core.Bool.{Bool, false, _&&_}
 use mathlib.Core.List.{List, [], _∷_, _++_}
-use mathlib.Core.Path.{_≡_}
-use Prim.Native.Nat.{ℕ, zero, suc, _+_, _-_, _*_, _/_, _≤_, min}
+use Prim.Native.Nat.{ℕ, zero, suc, _+_, _-_, _*_, _/_, min}
 use lib.Dec.{eqb, ltb}
 use lib.IntN.{ℤ, pos, negsuc}
 use lib.ListN.{length, getD, replicate}
@@ -86,19 +85,3 @@ atStart c = withTrailing (withDirection (withPlayer c (CW / 2) 0) (pos 0) (pos 0
 unfoldable pub freshLevel : Cutter → List ℕ → Cutter
 freshLevel c draws =
     withCreatures (withGrid (atStart c) freshGrid) (drawnEnemies draws (creaturesOf (c .level))) (creaturesOf (c .level))
-
--- ---- what the code is handed
-
--- the four draws of a creature are there
-abbrev pub FourAt : List ℕ → ℕ → Type 0
-FourAt draws i = DRAWS * i + DRAWS ≤ length draws
-
--- the draws of the creature i
-pub record DrawsAt (draws : List ℕ) (i : ℕ) : Type 0 where
-  pub there : FourAt draws i
-  pub fit : inRange draws i ≡ true
-
--- the draws of n creatures
-pub record DrawsFor (draws : List ℕ) (n : ℕ) : Type 0 where
-  pub few : n ≤ MAX-ENEMIES
-  pub fit : drawsOk draws n ≡ true

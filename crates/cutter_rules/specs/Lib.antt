@@ -1,5 +1,4 @@
 pub mod Ahead
 pub mod Level
-pub mod Ring
 pub mod Step
 pub mod Tick

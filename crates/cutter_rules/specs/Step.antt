@@ -1,16 +1,16 @@
 -- Block Cutter: the direction call, and the player's step.
 use mathlib.Core.Bool.{Bool, true, false, cond, _&&_}
 use mathlib.Core.List.{List, map}
-use Prim.Native.Nat.{ℕ, zero, suc, _/_, _%_, _<_}
+use Prim.Native.Nat.{ℕ, zero, suc, _/_, _%_}
 use lib.Dec.{eqb, leb}
 use lib.IntN.{ℤ, pos, negsuc}
 use lib.ListN.{set}
 use Rattle.found.specs.declared.Found.{Found}
 use Rattle.found.specs.declared.Found.the-variants.{At, Nobody}
-use Rattle.ground.specs.Cells.{CW, CH, CN, CB-BLACK, CB-FILLED, CB-TRAIL, cellAt, onBorder}
+use Rattle.ground.specs.Cells.{CW, CN, CB-BLACK, CB-FILLED, CB-TRAIL, cellAt, onBorder}
 use Rattle.cutter_state.specs.declared.Cutter.{Cutter}
 use Rattle.cutter_state.specs.State.{place, creatures}
-use Rattle.cutter_state.specs.WellFormed.{isZero, WellFormed}
+use Rattle.cutter_state.specs.WellFormed.{isZero}
 use Rattle.cutter_state.specs.Change.{withGrid, withPlayer, withDirection, withTrailing, withCreatures, killed}
 use Rattle.regions.specs.Regions.{MAX-COMP}
 use Rattle.closing.specs.Closing.{closeCut}
@@ -122,15 +122,3 @@ lineErased k = cond (eqb k CB-TRAIL) CB-BLACK k
 -- line back to black, player (32,0), no direction, not trailing, then to the border
 unfoldable pub respawned : Cutter → Cutter
 respawned c = atBorder (withGrid (atStart c) (map lineErased (c .grid)))
-
--- ---- what the code is handed
-
--- a place on the grid
-pub record OnGrid (x y : ℕ) : Type 0 where
-  pub across : x < CW
-  pub down : y < CH
-
--- a well-formed state, and a cell of the grid to step to
-pub record Stepping (c : Cutter) (t : ℕ) : Type 0 where
-  pub well : WellFormed c
-  pub inside : t < CN

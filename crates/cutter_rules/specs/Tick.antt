@@ -4,7 +4,6 @@ use mathlib.Core.List.{List, [], _∷_, _++_}
 use Prim.Native.Nat.{ℕ, _/_, _%_}
 use lib.Dec.{eqb}
 use lib.IntN.{ℤ, pos, negsuc}
-use lib.ListN.{take, drop}
 use Rattle.laws.specs.Lists.{any}
 use Rattle.found.specs.First.{first}
 use Rattle.found.specs.declared.Found.{Found}
@@ -13,7 +12,6 @@ use Rattle.ground.specs.declared.Mover.{Mover}
 use Rattle.cutter_state.specs.declared.Cutter.{Cutter}
 use Rattle.cutter_state.specs.State.{creatures, spare}
 use Rattle.cutter_state.specs.Change.{withCreatures, withDead}
-use Rattle.cutter_rules.specs.declared.enemies.Moved.{Moved}
 use Rattle.cutter_rules.specs.Ahead.{sideOf, verticalOf, diagonalOf}
 
 -- the first creature at a cell, or nobody
@@ -61,9 +59,3 @@ unfoldable pub enemiesStepped : Cutter → Cutter
 enemiesStepped c =
     withDead (withCreatures c (ticked (c .grid) (creatures c) ++ spare c) (c .count))
     (c .dead || any (lineAhead (c .grid)) (creatures c))
-
--- ---- what the loop answers
-
--- the tick of the first n creatures, and whether one of them had line ahead
-unfoldable pub tickOf : List ℕ → List Mover → ℕ → Moved
-tickOf g es n = record { enemies = ticked g (take n es) ++ drop n es; dead = any (lineAhead g) (take n es) }

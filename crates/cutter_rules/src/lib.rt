@@ -1,18 +1,10 @@
-// Block Cutter: the rules, on well-formed states.
-mod ahead;
-mod enemies;
-mod level;
-mod player;
+// Block Cutter's rules, as definitions (specs/) and their cases and laws (proofs/); here the words that they share with the code.
 
-pub use enemies::enemy_at;
-pub use enemies::step_enemies;
-pub use level::creatures_of;
-pub use level::draws_ok;
-pub use level::new_level;
-pub use player::DOWN;
-pub use player::LEFT;
-pub use player::RIGHT;
-pub use player::UP;
-pub use player::direction;
-pub use player::respawn;
-pub use player::step_player;
+// The directions.
+pub const UP: u8 = 0;
+
+pub const RIGHT: u8 = 1;
+
+pub const DOWN: u8 = 2;
+
+pub const LEFT: u8 = 3;

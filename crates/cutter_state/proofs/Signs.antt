@@ -5,12 +5,16 @@ use Prim.Native.Nat.{ℕ, zero, suc, _+_, _-_, _<_}
 use native.Mathlib.Omega.{arith}
 use lib.Dec.{eqb, leb}
 use lib.IntN.{ℤ, pos, negsuc, natAbs}
-use lib.Signed.{ltZ}
+use lib.Signed.{mag, ltZ}
 use mir.Syntax.{w8}
 use mir.Val.{SFits, toZ, ofZ}
 use mir.Facts.{toZ-ofZ}
 use borrow.Author.Tests.{eqb-true, eqb-false, ne-eqb, lt-leb}
 use Rattle.cutter_state.specs.WellFormed.{isZero, isUnit, directionOk}
+
+-- a number comes back from its eight bits
+pub kept : (v : ℤ) → mag v < 128 → toZ w8 (ofZ w8 v) ≡ v
+kept v h = toZ-ofZ (record { sfits = h })
 
 module _ (v : ℤ) (f : SFits w8 v) where
   -- a test of the sign

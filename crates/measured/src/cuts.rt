@@ -10,8 +10,9 @@ ghost use Rattle.border.specs.Border.{toBorder};
 ghost use Rattle.cutter_state.specs.State.{place};
 ghost use Rattle.cutter_state.specs.WellFormed.{WellFormed, refusalOf};
 ghost use Rattle.cutter_rules.specs.Level.{drawsOk, creaturesOf, freshLevel};
-ghost use Rattle.cutter_rules.specs.Step.{stepped, respawned, OnGrid};
+ghost use Rattle.cutter_rules.specs.Step.{stepped, respawned};
 ghost use Rattle.cutter_rules.specs.Tick.{enemiesStepped};
+ghost use Rattle.cutter_moves.specs.Moves.{OnGrid};
 ghost use Rattle.cutter_picture.specs.Picture.{Drawable, cutLit};
 ghost use Rattle.cutter_pass.specs.Pass.{passAt};
 ghost use Rattle.cutter.specs.Calls.{reportCall};
@@ -36,7 +37,7 @@ pub extern "C" fn rule_cutter_step(c: Cutter) -> Cutter
     requires { ⌜ WellFormed c ⌝ }
     ensures { λ r. ⌜ r ≡ stepped c ⌝ }
 {
-    cutter_rules::step_player(c)
+    cutter_moves::step_player(c)
 }
 
 #[no_mangle]
@@ -44,14 +45,14 @@ pub extern "C" fn rule_cutter_tick(c: Cutter) -> Cutter
     requires { ⌜ WellFormed c ⌝ }
     ensures { λ r. ⌜ r ≡ enemiesStepped c ⌝ }
 {
-    cutter_rules::step_enemies(c)
+    cutter_moves::step_enemies(c)
 }
 
 #[no_mangle]
 pub extern "C" fn rule_cutter_respawn(c: Cutter) -> Cutter
     ensures { λ r. ⌜ r ≡ respawned c ⌝ }
 {
-    cutter_rules::respawn(c)
+    cutter_moves::respawn(c)
 }
 
 #[no_mangle]
@@ -59,7 +60,7 @@ pub extern "C" fn rule_cutter_level(c: Cutter, draws: &[u8]) -> Cutter
     requires { ⌜ drawsOk (now draws) (creaturesOf (c .level)) ≡ true ⌝ }
     ensures { λ r. ⌜ r ≡ freshLevel c (now (draws .entry)) ⌝ }
 {
-    cutter_rules::new_level(c, draws)
+    cutter_level::new_level(c, draws)
 }
 
 // Where the walk to the border ends.

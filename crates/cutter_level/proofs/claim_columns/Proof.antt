@@ -1,0 +1,74 @@
+use mathlib.Core.Path.{_≡_, refl}
+use Prim.Native.Nat.{_≤_, _-_}
+use native.Mathlib.Omega.{arith}
+use borrow.Author.Needs.{needs}
+use lib.ListN.{length, length-set}
+use Rattle.laws.specs.Lists.{across}
+use Rattle.laws.proofs.Folds.{across-more, across-end}
+use Rattle.ground.specs.Cells.{CH, CN}
+use Rattle.cutter_level.specs.Ring.{claimColumn}
+use Rattle.cutter_level.proofs.claim_columns.Statement.{statement}
+use Rattle.cutter_level.proofs.claim_columns.Tie as tie
+
+abbrev Inv-loop : tie.InvT-loop
+Inv-loop grid₀ y₀ grid y =
+    (y ≤ CH) × (length grid ≡ CN) × (across claimColumn (CH - y) y grid ≡ across claimColumn CH 0 grid₀)
+
+abbrev μ-loop : tie.MeasureT-loop
+μ-loop grid₀ y₀ grid y = CH - y
+
+loop-holds : tie.Need-loop-holds Inv-loop μ-loop
+loop-holds c = (omega arith, c .pre, refl)
+
+mul-grid : tie.Need-mul-grid Inv-loop μ-loop
+mul-grid c = search needs
+
+element-write-grid : tie.Need-element-write-grid Inv-loop μ-loop
+element-write-grid c = search needs
+
+mul-grid-2 : tie.Need-mul-grid-2 Inv-loop μ-loop
+mul-grid-2 c = search needs
+
+add-grid : tie.Need-add-grid Inv-loop μ-loop
+add-grid c = search needs
+
+sub-grid : tie.Need-sub-grid Inv-loop μ-loop
+sub-grid c = search needs
+
+element-write-grid-2 : tie.Need-element-write-grid-2 Inv-loop μ-loop
+element-write-grid-2 c = search needs
+
+add-y : tie.Need-add-y Inv-loop μ-loop
+add-y c = search needs
+
+loop-less : tie.Need-loop-less Inv-loop μ-loop
+loop-less c = search needs
+
+loop-again : tie.Need-loop-again Inv-loop μ-loop
+unfolding claimColumn
+loop-again c =
+    let k = c .before in
+    (omega arith, simp length-set (k .loop .inv .1), across-more claimColumn CH (k .loop .y) (k .loop .grid) (omega arith) (k .loop .inv .2))
+
+returns : tie.Need-returns Inv-loop μ-loop
+returns c =
+    let k = c .before in
+    across-end claimColumn CH (k .loop .y) (k .loop .grid) (omega arith) (k .loop .inv .2)
+
+pub claim-columns-spec : {M : Type 1} → statement M
+claim-columns-spec =
+    tie.close
+    (tie.spec
+    Inv-loop
+    μ-loop
+    loop-holds
+    mul-grid
+    element-write-grid
+    mul-grid-2
+    add-grid
+    sub-grid
+    element-write-grid-2
+    add-y
+    loop-less
+    loop-again
+    returns)

@@ -1,0 +1,70 @@
+use mathlib.Core.Path.{_≡_, refl}
+use Prim.Native.Nat.{_≤_, _-_}
+use native.Mathlib.Omega.{arith}
+use borrow.Author.Needs.{needs}
+use lib.ListN.{length, length-set}
+use Rattle.laws.specs.Lists.{across}
+use Rattle.laws.proofs.Folds.{across-more, across-end}
+use Rattle.ground.specs.Cells.{CW, CN}
+use Rattle.cutter_level.specs.Ring.{claimRow}
+use Rattle.cutter_level.proofs.claim_rows.Statement.{statement}
+use Rattle.cutter_level.proofs.claim_rows.Tie as tie
+
+abbrev Inv-loop : tie.InvT-loop
+Inv-loop grid₀ x₀ grid x =
+    (x ≤ CW) × (length grid ≡ CN) × (across claimRow (CW - x) x grid ≡ across claimRow CW 0 grid₀)
+
+abbrev μ-loop : tie.MeasureT-loop
+μ-loop grid₀ x₀ grid x = CW - x
+
+loop-holds : tie.Need-loop-holds Inv-loop μ-loop
+loop-holds c = (omega arith, c .pre, refl)
+
+element-write-grid : tie.Need-element-write-grid Inv-loop μ-loop
+element-write-grid c = search needs
+
+sub-grid : tie.Need-sub-grid Inv-loop μ-loop
+sub-grid c = search needs
+
+mul-grid : tie.Need-mul-grid Inv-loop μ-loop
+mul-grid c = search needs
+
+add-grid : tie.Need-add-grid Inv-loop μ-loop
+add-grid c = search needs
+
+element-write-grid-2 : tie.Need-element-write-grid-2 Inv-loop μ-loop
+element-write-grid-2 c = search needs
+
+add-x : tie.Need-add-x Inv-loop μ-loop
+add-x c = search needs
+
+loop-less : tie.Need-loop-less Inv-loop μ-loop
+loop-less c = search needs
+
+loop-again : tie.Need-loop-again Inv-loop μ-loop
+unfolding claimRow
+loop-again c =
+    let k = c .before in
+    (omega arith, simp length-set (k .loop .inv .1), across-more claimRow CW (k .loop .x) (k .loop .grid) (omega arith) (k .loop .inv .2))
+
+returns : tie.Need-returns Inv-loop μ-loop
+returns c =
+    let k = c .before in
+    across-end claimRow CW (k .loop .x) (k .loop .grid) (omega arith) (k .loop .inv .2)
+
+pub claim-rows-spec : {M : Type 1} → statement M
+claim-rows-spec =
+    tie.close
+    (tie.spec
+    Inv-loop
+    μ-loop
+    loop-holds
+    element-write-grid
+    sub-grid
+    mul-grid
+    add-grid
+    element-write-grid-2
+    add-x
+    loop-less
+    loop-again
+    returns)

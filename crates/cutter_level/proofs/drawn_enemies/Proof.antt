@@ -1,0 +1,71 @@
+use mathlib.Core.List.{_++_}
+use mathlib.Core.Path.{_≡_, _∙_}
+use Prim.Native.Nat.{_≤_, _-_}
+use native.Mathlib.Omega.{arith}
+use borrow.Author.Needs.{needs}
+use lib.ListN.{drop, replicate}
+use denote.Ref.{now}
+use Rattle.laws.specs.Lists.{table}
+use Rattle.laws.proofs.Lists.{drop-replicate}
+use Rattle.laws.proofs.Table.{length-table, table-none, table-more}
+use Rattle.ground.specs.Cells.{MAX-ENEMIES}
+use Rattle.closing.specs.Closing.{blank}
+use Rattle.cutter_rules.specs.Level.{drawn}
+use Rattle.cutter_level.proofs.Draws.{draws-each}
+use Rattle.cutter_level.proofs.drawn_enemies.Statement.{statement}
+use Rattle.cutter_level.proofs.drawn_enemies.Tie as tie
+
+abbrev Inv-loop : tie.InvT-loop
+Inv-loop draws n out₀ i₀ out i =
+    (i ≤ n) × (out ≡ table i (drawn draws) ++ drop i (replicate MAX-ENEMIES blank))
+
+abbrev μ-loop : tie.MeasureT-loop
+μ-loop draws n out₀ i₀ out i = n - i
+
+loop-holds : tie.Need-loop-holds Inv-loop μ-loop
+loop-holds c = (omega arith, table-none (drawn (now (c .before .args .draws))) (replicate MAX-ENEMIES blank))
+
+drawn-mover-requires : tie.Need-drawn-mover-requires Inv-loop μ-loop
+drawn-mover-requires c κs =
+    let s = c .before .before .before in
+    draws-each (now (s .args .draws)) (s .args .n) (c .before .loop .i) (s .pre) (omega arith)
+
+mul-out : tie.Need-mul-out Inv-loop μ-loop
+mul-out c = search needs
+
+array-set-from-out : tie.Need-array-set-from-out Inv-loop μ-loop
+array-set-from-out c = search needs
+
+add-i : tie.Need-add-i Inv-loop μ-loop
+add-i c = search needs
+
+loop-less : tie.Need-loop-less Inv-loop μ-loop
+loop-less c = search needs
+
+loop-again : tie.Need-loop-again Inv-loop μ-loop
+loop-again c =
+    let k = c .before .before in
+    let s = k .before .before in
+    (omega arith, rw (c .drawn-mover .ensures, k .loop .inv .1) (table-more (k .loop .i) (drawn (now (s .args .draws))) (replicate MAX-ENEMIES blank) blank (omega (arith, s .pre))))
+
+returns : tie.Need-returns Inv-loop μ-loop
+returns c =
+    let k = c .before in
+    let s = k .before .before in
+    let e : k .loop .i ≡ s .args .n = omega arith in
+    k .loop .inv .1 ∙ rw (e, drop-replicate MAX-ENEMIES (s .args .n) blank, length-table (s .args .n) (drawn (now (s .args .draws))))
+
+pub drawn-enemies-spec : {M : Type 1} → statement M
+drawn-enemies-spec =
+    tie.close
+    (tie.spec
+    Inv-loop
+    μ-loop
+    loop-holds
+    drawn-mover-requires
+    mul-out
+    array-set-from-out
+    add-i
+    loop-less
+    loop-again
+    returns)

@@ -1,0 +1,31 @@
+use mathlib.Core.Path.{_∙_}
+use borrow.Author.Needs.{needs}
+use Rattle.ground.specs.Cells.{upOf, downOf}
+use Rattle.cutter_state.proofs.Signs.{below, above}
+use Rattle.cutter_moves.proofs.Along.{along-back, along-on, along-none}
+use Rattle.cutter_moves.proofs.ahead.vertical_of.Statement.{statement}
+use Rattle.cutter_moves.proofs.ahead.vertical_of.Tie as tie
+
+up-of-requires : tie.Need-up-of-requires
+up-of-requires c κs = search needs
+
+returns : tie.Need-returns
+returns c =
+    let s = c .before .before in
+    c .up-of .ensures ∙ along-back upOf downOf (s .args .at) (s .args .v) (below (s .args .v) (s .fits .v) (c .before .if1 .taken))
+
+down-of-requires : tie.Need-down-of-requires
+down-of-requires c κs = search needs
+
+returns-2 : tie.Need-returns-2
+returns-2 c =
+    let s = c .before .before .before in
+    c .down-of .ensures ∙ along-on upOf downOf (s .args .at) (s .args .v) (above (s .args .v) (s .fits .v) (c .before .if2 .taken))
+
+returns-3 : tie.Need-returns-3
+returns-3 c =
+    let s = c .before .before in
+    along-none upOf downOf (s .args .at) (s .args .v) (below (s .args .v) (s .fits .v) (c .before .if1 .left)) (above (s .args .v) (s .fits .v) (c .if2 .left))
+
+pub vertical-of-spec : {M : Type 1} → statement M
+vertical-of-spec = tie.close (tie.spec up-of-requires returns down-of-requires returns-2 returns-3)

@@ -1,0 +1,85 @@
+use mathlib.Core.Path.{_≡_, sym, _∙_}
+use Prim.Native.Nat.{_≤_, _-_}
+use native.Mathlib.Omega.{arith}
+use borrow.Author.Needs.{needs}
+use lib.ListN.{length}
+use denote.Ref.{now}
+use Rattle.laws.proofs.Lists.{mapped}
+use Rattle.ground.specs.Cells.{MAX-ENEMIES}
+use Rattle.cutter_moves.proofs.Tick.{Going, going-start, going-more, going-dead, going-end}
+use Rattle.cutter_moves.proofs.enemies.tick.Statement.{statement}
+use Rattle.cutter_moves.proofs.enemies.tick.Tie as tie
+
+abbrev Inv-loop : tie.InvT-loop
+Inv-loop grid count out₀ i₀ out i = (count ≤ length out₀) × Going grid out₀ count out i
+
+abbrev μ-loop : tie.MeasureT-loop
+μ-loop grid count out₀ i₀ out i = count - i
+
+loop-holds : tie.Need-loop-holds Inv-loop μ-loop
+loop-holds c =
+    let l : length (c .args .enemies) ≡ MAX-ENEMIES = search (needs, mapped) in
+    (omega arith, going-start (now (c .args .grid)) (c .args .enemies) (c .args .count))
+
+mul-e : tie.Need-mul-e Inv-loop μ-loop
+mul-e c = search needs
+
+array-copy-out-e : tie.Need-array-copy-out-e Inv-loop μ-loop
+array-copy-out-e c = search needs
+
+line-ahead-requires : tie.Need-line-ahead-requires Inv-loop μ-loop
+line-ahead-requires c κs = search needs
+
+returns : tie.Need-returns Inv-loop μ-loop
+returns c =
+    let k = c .before .before .before .before in
+    let a = k .before .args in
+    going-dead (now (a .grid)) (a .enemies) (a .count) (k .loop .out) (k .loop .i) _ (k .loop .inv .1) (k .loop .inv .0) (omega arith) (sym (c .before .line-ahead .ensures) ∙ c .if1 .taken)
+
+bounce-requires : tie.Need-bounce-requires Inv-loop μ-loop
+bounce-requires c κs = search needs
+
+mul-out : tie.Need-mul-out Inv-loop μ-loop
+mul-out c = search needs
+
+array-set-from-out : tie.Need-array-set-from-out Inv-loop μ-loop
+array-set-from-out c = search needs
+
+add-i : tie.Need-add-i Inv-loop μ-loop
+add-i c = search needs
+
+loop-less : tie.Need-loop-less Inv-loop μ-loop
+loop-less c = search needs
+
+loop-again : tie.Need-loop-again Inv-loop μ-loop
+loop-again c =
+    let k = c .before .before .before .before .before in
+    let a = k .before .args in (
+      omega arith,
+      rw (c .bounce .ensures) (going-more (now (a .grid)) (a .enemies) (a .count) (k .loop .out) (k .loop .i) _ (k .loop .inv .1) (k .loop .inv .0) (omega arith) (sym (c .before .before .line-ahead .ensures) ∙ c .before .if1 .left)),
+    )
+
+returns-2 : tie.Need-returns-2 Inv-loop μ-loop
+returns-2 c =
+    let k = c .before in
+    let a = k .before .args in
+    going-end (now (a .grid)) (a .enemies) (a .count) (k .loop .out) (k .loop .i) (k .loop .inv .1) (k .loop .inv .0) (omega arith)
+
+pub tick-spec : {M : Type 1} → statement M
+tick-spec =
+    tie.close
+    (tie.spec
+    Inv-loop
+    μ-loop
+    loop-holds
+    mul-e
+    array-copy-out-e
+    line-ahead-requires
+    returns
+    bounce-requires
+    mul-out
+    array-set-from-out
+    add-i
+    loop-less
+    loop-again
+    returns-2)

@@ -1,0 +1,9 @@
+// Block Cutter: direction, step, creature tick and respawn, on well-formed states.
+mod ahead;
+mod enemies;
+mod player;
+
+pub use enemies::step_enemies;
+pub use player::direction;
+pub use player::respawn;
+pub use player::step_player;
