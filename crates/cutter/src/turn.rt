@@ -1,8 +1,8 @@
 // One turn of the game's loop. The pacing record is lent to a pass, which updates it.
 use cutter_pass::CutterPassed;
 use cutter_pass::CutterTurn;
-use cutter_pass::pass_at;
 use cutter_state::Cutter;
+use cutter_turn::pass_at;
 use pace::Pace;
 ghost use mathlib.Core.Path.{_≡_};
 ghost use Rattle.cutter_pass.specs.Pass.{passAt};

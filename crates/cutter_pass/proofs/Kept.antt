@@ -1,8 +1,10 @@
--- Each part of a pass keeps a state well formed. Assumes nothing.
+-- Each part of a pass keeps a state well formed; when a step wins. Assumes nothing.
 use mathlib.Core.Bool.{Bool, true, false, cond}
-use Prim.Native.Nat.{ℕ, _-_}
+use mathlib.Core.Path.{_≡_}
+use Prim.Native.Nat.{ℕ, _-_, _<_}
 use native.Mathlib.Omega.{arith}
 use lib.Dec.{ltb}
+use borrow.Author.Tests.{lt-ltb}
 use Rattle.laws.proofs.Choice.{cond-both}
 use Rattle.cutter_state.specs.declared.Cutter.{Cutter}
 use Rattle.cutter_state.specs.WellFormed.{WellFormed}
@@ -32,6 +34,11 @@ module _ (c : Cutter) (w : WellFormed c) where
 
   pub ticked-kept : (due : Bool) → Kept c (cond due (enemiesStepped c) c)
   ticked-kept due = cond-both (Kept c) due _ _ (λ _. tick-kept c w) (λ _. kept-self w)
+
+-- black below 465 after a step wins, whether or not it closed a cut
+pub step-wins : (c : Cutter) → blackIn (stepped c) < CLEAR-BELOW → moved c .«won_level» ≡ true
+unfolding scored
+step-wins c h = rw (lt-ltb (blackIn (stepped c)) CLEAR-BELOW h)
 
 pub moved-accounts : (c : Cutter) → WellFormed c → Accounts c (moved c) (stepClaims c) (stepLoses c)
 moved-accounts c w = let k = step-accounts c w in accounts-kept k (scored-kept (stepped c) (k .formed))

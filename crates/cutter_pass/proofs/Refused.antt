@@ -19,6 +19,11 @@ due-level : (c : Cutter) → c .dead ≡ false → c .«won_level» ≡ true →
 unfolding levelDue
 due-level c d w = rw (d, w)
 
+-- at the last level 8 comes first, whatever the draws
+pub last-level : (c : Cutter) (draws : List ℕ) → c .level ≡ MAX-LEVEL → levelRefusal c draws ≡ LAST-LEVEL
+unfolding levelRefusal
+last-level c draws e = rw e
+
 module _ (c : Cutter) (draws : List ℕ) (e : passRefusal c draws ≡ NONE) where
   abbrev rest : Bool → ℕ
   rest due = cond due (levelRefusal c draws) (unless (eqb (length draws) 0) DRAWS)

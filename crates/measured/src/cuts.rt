@@ -93,7 +93,7 @@ pub extern "C" fn call_cutter_pass(
 ) -> Cutter
     ensures { λ r. ⌜ r ≡ passAt c (now (keys .entry)) (now (draws .entry)) time first second .passed .game ⌝ }
 {
-    let t = cutter_pass::pass_at(c, keys, draws, time, first, second);
+    let t = cutter_turn::pass_at(c, keys, draws, time, first, second);
     t.passed.game
 }
 

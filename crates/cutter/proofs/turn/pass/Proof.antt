@@ -55,10 +55,10 @@ use Rattle.cutter_pass.proofs.CutterTurn as S
 use Rattle.cutter_pass.proofs.CutterTurn.Laws as S′
 use Rattle.cutter_pass.proofs.CutterPassed as P
 use Rattle.cutter_pass.proofs.CutterPassed.Laws as P′
-use Rattle.cutter_pass.proofs.pass_at as pass-at
-use Rattle.cutter_pass.proofs.pass_at.Symbol as pass-at-def
-use Rattle.cutter_pass.proofs.pass_at.Symbol.{name as #pass-at}
-use Rattle.cutter_pass.proofs.pass_at.Met as pass-at-thm
+use Rattle.cutter_turn.proofs.pass_at as pass-at
+use Rattle.cutter_turn.proofs.pass_at.Symbol as pass-at-def
+use Rattle.cutter_turn.proofs.pass_at.Symbol.{name as #pass-at}
+use Rattle.cutter_turn.proofs.pass_at.Met as pass-at-thm
 use Rattle.cutter.proofs.turn.pass.Key.{name as #pass}
 use Rattle.cutter.proofs.turn.pass as pass
 use Rattle.cutter.proofs.turn.pass.Statement as stated
@@ -180,4 +180,4 @@ pass-spec 𝓤 H 𝓜 𝓖 𝓡 =
     entered 𝓤 H (tripleOf 𝓤 H (𝓖 .A) pass.signature (pass.spec 𝓤 H (𝓖 .A) (𝓜 .mem) (𝓡 .run)))
     (tables 𝓤 H 𝓜 𝓡 code.env .C) (tables 𝓤 H 𝓜 𝓡 code.env .Λ) #pass code.function (code.unfolded 𝓤 H 𝓜 𝓡)
     (pass-meets 𝓤 H (𝓖 .A) (givenOf 𝓤 H 𝓜 𝓖) (𝓜 .mem) (𝓡 .run) (tablesOf 𝓤 H 𝓜 (tables 𝓤 H 𝓜 𝓡 code.env))
-    (cited 𝓤 H (PassAt 𝓤 H (𝓖 .A) (𝓜 .mem) (𝓡 .run)) 𝓜 𝓡 code.env #pass-at pass-at-def.routine code.calls-cutter-pass·pass-at (pass-at-thm.met 𝓤 H 𝓜 𝓖 𝓡)))
+    (cited 𝓤 H (PassAt 𝓤 H (𝓖 .A) (𝓜 .mem) (𝓡 .run)) 𝓜 𝓡 code.env #pass-at pass-at-def.routine code.calls-cutter-turn·pass-at (pass-at-thm.met 𝓤 H 𝓜 𝓖 𝓡)))

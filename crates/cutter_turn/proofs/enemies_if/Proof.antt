@@ -1,7 +1,7 @@
--- `cutter_pass::enemies_if` meets its contract. Assumes nothing.
+-- `cutter_turn::enemies_if` meets its contract. Assumes nothing.
 use borrow.Author.Needs.{needs}
-use Rattle.cutter_pass.proofs.enemies_if.Statement.{statement}
-use Rattle.cutter_pass.proofs.enemies_if.Tie as tie
+use Rattle.cutter_turn.proofs.enemies_if.Statement.{statement}
+use Rattle.cutter_turn.proofs.enemies_if.Tie as tie
 
 step-enemies-requires : tie.Need-step-enemies-requires
 step-enemies-requires c κs = search needs

@@ -1,8 +1,8 @@
--- `cutter_pass::level_up` meets its contract. Assumes nothing.
+-- `cutter_turn::level_up` meets its contract. Assumes nothing.
 use borrow.Author.Needs.{needs}
 use Rattle.cutter_pass.specs.Pass.{nextLevel}
-use Rattle.cutter_pass.proofs.level_up.Statement.{statement}
-use Rattle.cutter_pass.proofs.level_up.Tie as tie
+use Rattle.cutter_turn.proofs.level_up.Statement.{statement}
+use Rattle.cutter_turn.proofs.level_up.Tie as tie
 
 add-out : tie.Need-add-out
 add-out c = search needs

@@ -1,7 +1,7 @@
--- `cutter_pass::level_due` meets its contract. Assumes nothing.
+-- `cutter_turn::level_due` meets its contract. Assumes nothing.
 use Rattle.cutter_pass.specs.Pass.{levelDue}
-use Rattle.cutter_pass.proofs.level_due.Statement.{statement}
-use Rattle.cutter_pass.proofs.level_due.Tie as tie
+use Rattle.cutter_turn.proofs.level_due.Statement.{statement}
+use Rattle.cutter_turn.proofs.level_due.Tie as tie
 
 returns : tie.Need-returns
 unfolding levelDue

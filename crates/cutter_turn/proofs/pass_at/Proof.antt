@@ -1,13 +1,13 @@
--- `cutter_pass::pass_at` meets its contract. Assumes nothing.
+-- `cutter_turn::pass_at` meets its contract. Assumes nothing.
 use mathlib.Core.Path.{sym, _∙_, ap}
 use borrow.Author.Needs.{needs}
 use Rattle.refusal.specs.Refusal.{NONE}
 use Rattle.answer.specs.declared.Answer.the-variants.{GoingOn}
 use Rattle.cutter_pass.specs.Pass.{still}
 use Rattle.cutter_pass.proofs.Refused.{pass-state, pass-level}
 use Rattle.cutter_pass.proofs.Answers.{on-dead, on-level, on-keys, refused-pass, played-pass}
-use Rattle.cutter_pass.proofs.pass_at.Statement.{statement}
-use Rattle.cutter_pass.proofs.pass_at.Tie as tie
+use Rattle.cutter_turn.proofs.pass_at.Statement.{statement}
+use Rattle.cutter_turn.proofs.pass_at.Tie as tie
 
 refusal-of-requires : tie.Need-refusal-of-requires
 refusal-of-requires c κs = search needs

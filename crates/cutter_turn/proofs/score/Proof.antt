@@ -1,4 +1,4 @@
--- `cutter_pass::score` meets its contract. Assumes nothing.
+-- `cutter_turn::score` meets its contract. Assumes nothing.
 use mathlib.Core.Bool.{true, false}
 use mathlib.Core.Path.{_≡_, sym, _∙_, ap}
 use Prim.Native.Nat.{ℕ}
@@ -6,9 +6,9 @@ use borrow.Author.Needs.{needs}
 use borrow.Author.Tests.{lt-ltb, le-ltb}
 use lib.Dec.{ltb}
 use Rattle.cutter_keeps.specs.Kept.{blackIn}
 use Rattle.cutter_pass.specs.Pass.{CLEAR-BELOW, scored}
-use Rattle.cutter_pass.proofs.score.Statement.{statement}
-use Rattle.cutter_pass.proofs.score.Tie as tie
+use Rattle.cutter_turn.proofs.score.Statement.{statement}
+use Rattle.cutter_turn.proofs.score.Tie as tie
 
 black-count-requires : tie.Need-black-count-requires
 black-count-requires c κs = search needs

@@ -1,4 +1,4 @@
--- `cutter_pass::refusal_of` meets its contract. Assumes nothing.
+-- `cutter_turn::refusal_of` meets its contract. Assumes nothing.
 use mathlib.Core.Bool.{true, false}
 use mathlib.Core.Path.{_≡_, sym, _∙_, ap}
 use Prim.Native.Nat.{_+_}
@@ -8,10 +8,10 @@ use borrow.Author.Tests.{eq-eqb, ne-eqb}
 use Rattle.refusal.proofs.Calls.{then-first}
 use Rattle.cutter_state.specs.WellFormed.{MAX-LEVEL, refusalOf}
 use Rattle.cutter_rules.specs.Level.{creaturesOf, drawsOk}
 use Rattle.cutter_pass.specs.Pass.{levelRefusal, passRefusal}
 use Rattle.cutter_state.proofs.Facts.{accepted}
-use Rattle.cutter_pass.proofs.refusal_of.Statement.{statement}
-use Rattle.cutter_pass.proofs.refusal_of.Tie as tie
+use Rattle.cutter_turn.proofs.refusal_of.Statement.{statement}
+use Rattle.cutter_turn.proofs.refusal_of.Tie as tie
 
 check-requires : tie.Need-check-requires
 check-requires c κs = search needs

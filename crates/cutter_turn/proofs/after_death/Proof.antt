@@ -1,4 +1,4 @@
--- `cutter_pass::after_death` meets its contract. Assumes nothing.
+-- `cutter_turn::after_death` meets its contract. Assumes nothing.
 use mathlib.Core.Bool.{true, false}
 use mathlib.Core.Path.{_≡_, sym, _∙_, ap}
 use lib.Dec.{eqb}
@@ -8,9 +8,9 @@ use Rattle.refusal.specs.Refusal.{NONE}
 use Rattle.answer.specs.declared.Answer.the-variants.{GoingOn, Over}
 use Rattle.cutter_state.specs.declared.Cutter.{Cutter}
 use Rattle.cutter_rules.specs.Step.{respawned}
 use Rattle.cutter_pass.specs.Pass.{hurt, still, afterDeath}
-use Rattle.cutter_pass.proofs.after_death.Statement.{statement}
-use Rattle.cutter_pass.proofs.after_death.Tie as tie
+use Rattle.cutter_turn.proofs.after_death.Statement.{statement}
+use Rattle.cutter_turn.proofs.after_death.Tie as tie
 
 lose-life-requires : tie.Need-lose-life-requires
 lose-life-requires c κs = search needs

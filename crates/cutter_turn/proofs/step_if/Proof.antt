@@ -1,9 +1,9 @@
--- `cutter_pass::step_if` meets its contract. Assumes nothing.
+-- `cutter_turn::step_if` meets its contract. Assumes nothing.
 use mathlib.Core.Path.{_∙_, ap}
 use borrow.Author.Needs.{needs}
 use Rattle.cutter_pass.specs.Pass.{scored}
-use Rattle.cutter_pass.proofs.step_if.Statement.{statement}
-use Rattle.cutter_pass.proofs.step_if.Tie as tie
+use Rattle.cutter_turn.proofs.step_if.Statement.{statement}
+use Rattle.cutter_turn.proofs.step_if.Tie as tie
 
 step-player-requires : tie.Need-step-player-requires
 step-player-requires c κs = search needs

@@ -1,9 +1,9 @@
--- `cutter_pass::press` meets its contract. Assumes nothing.
+-- `cutter_turn::press` meets its contract. Assumes nothing.
 use borrow.Author.Needs.{needs}
 use borrow.Author.Tests.{ne-eqb}
 use Rattle.cutter_pass.specs.Pass.{keyed}
-use Rattle.cutter_pass.proofs.press.Statement.{statement}
-use Rattle.cutter_pass.proofs.press.Tie as tie
+use Rattle.cutter_turn.proofs.press.Statement.{statement}
+use Rattle.cutter_turn.proofs.press.Tie as tie
 
 direction-requires : tie.Need-direction-requires
 direction-requires c κs = search needs

@@ -1,4 +1,4 @@
--- `cutter_pass::play` meets its contract: what is left of the keys makes of the state what all of them make. Assumes nothing.
+-- `cutter_turn::play` meets its contract: what is left of the keys makes of the state what all of them make. Assumes nothing.
 use mathlib.Core.Path.{_≡_, refl}
 use Prim.Native.Nat.{_≤_, _-_}
 use native.Mathlib.Omega.{arith}
@@ -6,10 +6,10 @@ use borrow.Author.Needs.{needs}
 use lib.ListN.{length, drop, drop-of-length-le}
 use borrow.Author.Tests.{eq-eqb, ne-eqb}
 use Rattle.laws.proofs.Lists.{drop-one}
 use Rattle.cutter_pass.specs.Pass.{KEY-QUIT, played}
-use Rattle.cutter_pass.proofs.Keys.{keys-more, keys-quit, keys-end}
-use Rattle.cutter_pass.proofs.play.Statement.{statement}
-use Rattle.cutter_pass.proofs.play.Tie as tie
+use Rattle.cutter_turn.proofs.Keys.{keys-more, keys-quit, keys-end}
+use Rattle.cutter_turn.proofs.play.Statement.{statement}
+use Rattle.cutter_turn.proofs.play.Tie as tie
 
 abbrev Inv-loop : tie.InvT-loop
 Inv-loop keys game₀ i₀ game i = (i ≤ length keys) × (played game (drop i keys) ≡ played game₀ keys)

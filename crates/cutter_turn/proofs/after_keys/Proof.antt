@@ -1,14 +1,14 @@
--- `cutter_pass::after_keys` meets its contract. Assumes nothing.
+-- `cutter_turn::after_keys` meets its contract. Assumes nothing.
 use mathlib.Core.Path.{sym, _∙_, ap, subst}
 use borrow.Author.Needs.{needs}
 use Rattle.cutter_state.specs.WellFormed.{WellFormed}
 use Rattle.cutter_pass.specs.declared.Played.{Played}
 use Rattle.cutter_pass.specs.Pass.{afterKeys}
 use Rattle.cutter_pass.proofs.Keys.{keys-kept}
 use Rattle.cutter_pass.proofs.Kept.{moved-formed}
 use Rattle.cutter_pass.proofs.Answers.{after-quit, after-ticks}
-use Rattle.cutter_pass.proofs.after_keys.Statement.{statement}
-use Rattle.cutter_pass.proofs.after_keys.Tie as tie
+use Rattle.cutter_turn.proofs.after_keys.Statement.{statement}
+use Rattle.cutter_turn.proofs.after_keys.Tie as tie
 
 play-requires : tie.Need-play-requires
 play-requires c κs = search needs

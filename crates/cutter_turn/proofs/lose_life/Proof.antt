@@ -1,8 +1,8 @@
--- `cutter_pass::lose_life` meets its contract. Assumes nothing.
+-- `cutter_turn::lose_life` meets its contract. Assumes nothing.
 use borrow.Author.Needs.{needs}
 use Rattle.cutter_pass.specs.Pass.{hurt}
-use Rattle.cutter_pass.proofs.lose_life.Statement.{statement}
-use Rattle.cutter_pass.proofs.lose_life.Tie as tie
+use Rattle.cutter_turn.proofs.lose_life.Statement.{statement}
+use Rattle.cutter_turn.proofs.lose_life.Tie as tie
 
 one-less-requires : tie.Need-one-less-requires
 one-less-requires c κs = search needs

@@ -1,0 +1,225 @@
+// One turn of Block Cutter's loop: what is left of it when keys, clock, draws and record are numbers.
+use answer::Answer;
+use cutter_level::creatures_of;
+use cutter_level::draws_ok;
+use cutter_level::new_level;
+use cutter_moves::direction;
+use cutter_moves::respawn;
+use cutter_moves::step_enemies;
+use cutter_moves::step_player;
+use cutter_pass::CLEAR_BELOW;
+use cutter_pass::CUT_ENEMY_CYCLES;
+use cutter_pass::CUT_MOVE_CYCLES;
+use cutter_pass::CutterPassed;
+use cutter_pass::CutterTurn;
+use cutter_pass::KEY_DOWN;
+use cutter_pass::KEY_LEFT;
+use cutter_pass::KEY_QUIT;
+use cutter_pass::KEY_RIGHT;
+use cutter_pass::KEY_UP;
+use cutter_pass::Played;
+use cutter_rules::DOWN;
+use cutter_rules::LEFT;
+use cutter_rules::RIGHT;
+use cutter_rules::UP;
+use cutter_state::Cutter;
+use cutter_state::MAX_LEVEL;
+use cutter_state::check;
+use ground::black_count;
+use pace::both_ticks;
+use refusal::Refusal;
+ghost use mathlib.Core.Bool.{cond};
+ghost use mathlib.Core.Path.{_≡_};
+ghost use Prim.Native.Nat.{_-_};
+ghost use Rattle.cutter_state.specs.WellFormed.{WellFormed};
+ghost use Rattle.cutter_rules.specs.Tick.{enemiesStepped};
+ghost use Rattle.cutter_pass.specs.Pass.{keyed, played, scored, moved, levelDue, passRefusal, hurt, nextLevel, NextLevel, still, afterDeath, afterKeys, passAt};
+
+fn level_due(c: Cutter) -> bool
+    ensures { λ r. ⌜ r ≡ levelDue c ⌝ }
+{
+    if c.dead {
+        return false;
+    }
+    c.won_level
+}
+
+// The state is checked once; draws are there only where a level starts.
+fn refusal_of(c: Cutter, draws: &[u8]) -> Refusal
+    ensures { λ r. ⌜ r ≡ passRefusal c (now (draws .entry)) ⌝ }
+{
+    let no = check(c);
+    if no != refusal::NONE {
+        return no;
+    }
+    if level_due(c) {
+        if c.level == MAX_LEVEL {
+            return refusal::LAST_LEVEL;
+        }
+        if draws_ok(draws, creatures_of(c.level + 1)) {
+            return refusal::NONE;
+        }
+        return refusal::DRAWS;
+    }
+    if draws.len() == 0 {
+        return refusal::NONE;
+    }
+    refusal::DRAWS
+}
+
+fn one_less(lives: u32) -> u32
+    ensures { λ r. ⌜ r ≡ lives - 1 ⌝ }
+{
+    if 0 < lives { lives - 1 } else { 0 }
+}
+
+fn lose_life(c: Cutter) -> Cutter
+    ensures { λ r. ⌜ r ≡ hurt c ⌝ }
+{
+    let lives = one_less(c.lives);
+    let mut out = c;
+    out.dead = false;
+    out.lives = lives;
+    out
+}
+
+fn level_up(c: Cutter, draws: &[u8]) -> Cutter
+    requires { ⌜ NextLevel c (now draws) ⌝ }
+    ensures { λ r. ⌜ r ≡ nextLevel c (now (draws .entry)) ⌝ }
+{
+    let mut out = c;
+    out.won_level = false;
+    out.level = c.level + 1;
+    new_level(out, draws)
+}
+
+fn press(c: Cutter, key: u8) -> Cutter
+    ensures { λ r. ⌜ r ≡ keyed c key ⌝ }
+{
+    match key {
+        KEY_UP => direction(c, UP),
+        KEY_DOWN => direction(c, DOWN),
+        KEY_LEFT => direction(c, LEFT),
+        KEY_RIGHT => direction(c, RIGHT),
+        _ => c,
+    }
+}
+
+fn play(c: Cutter, keys: &[u8]) -> Played
+    ensures { λ r. ⌜ r ≡ played c (now (keys .entry)) ⌝ }
+{
+    let mut game = c;
+    let mut i: usize = 0;
+    while i < keys.len() {
+        let key = keys[i];
+        if key == KEY_QUIT {
+            return Played {
+                quit: true,
+                game: game,
+            };
+        }
+        game = press(game, key);
+        i += 1;
+    }
+    Played {
+        quit: false,
+        game: game,
+    }
+}
+
+fn score(c: Cutter) -> Cutter
+    ensures { λ r. ⌜ r ≡ scored c ⌝ }
+{
+    let black = black_count(&c.grid) as usize;
+    let mut out = c;
+    if black < CLEAR_BELOW {
+        out.won_level = true;
+        return out;
+    }
+    out
+}
+
+fn step_if(due: bool, c: Cutter) -> Cutter
+    requires { ⌜ WellFormed c ⌝ }
+    ensures { λ r. ⌜ r ≡ cond due (moved c) c ⌝ }
+{
+    if due {
+        let stepped = step_player(c);
+        return score(stepped);
+    }
+    c
+}
+
+fn enemies_if(due: bool, c: Cutter) -> Cutter
+    requires { ⌜ WellFormed c ⌝ }
+    ensures { λ r. ⌜ r ≡ cond due (enemiesStepped c) c ⌝ }
+{
+    if due {
+        return step_enemies(c);
+    }
+    c
+}
+
+fn turn(first: u32, second: u32, refusal: Refusal, answer: Answer, game: Cutter) -> CutterTurn
+    ensures { λ r. ⌜ r ≡ still first second refusal answer game ⌝ }
+{
+    let passed = CutterPassed {
+        refusal: refusal,
+        answer: answer,
+        game: game,
+    };
+    CutterTurn {
+        first: first,
+        second: second,
+        passed: passed,
+    }
+}
+
+fn after_death(c: Cutter, first: u32, second: u32) -> CutterTurn
+    ensures { λ r. ⌜ r ≡ afterDeath first second c ⌝ }
+{
+    let out = lose_life(c);
+    if out.lives == 0 {
+        return turn(first, second, refusal::NONE, Answer::Over, out);
+    }
+    let back = respawn(out);
+    turn(first, second, refusal::NONE, Answer::GoingOn, back)
+}
+
+fn after_keys(c: Cutter, keys: &[u8], time: u32, first: u32, second: u32) -> CutterTurn
+    requires { ⌜ WellFormed c ⌝ }
+    ensures { λ r. ⌜ r ≡ afterKeys first second time (played c (now (keys .entry))) ⌝ }
+{
+    let played = play(c, keys);
+    if played.quit {
+        return turn(first, second, refusal::NONE, Answer::Quit, played.game);
+    }
+    let due = both_ticks(time, first, second, CUT_MOVE_CYCLES, CUT_ENEMY_CYCLES);
+    let stepped = step_if(due.one, played.game);
+    let game = enemies_if(due.two, stepped);
+    turn(due.first, due.second, refusal::NONE, Answer::GoingOn, game)
+}
+
+pub fn pass_at(
+    c: Cutter,
+    keys: &[u8],
+    draws: &[u8],
+    time: u32,
+    first: u32,
+    second: u32,
+) -> CutterTurn
+    ensures { λ r. ⌜ r ≡ passAt c (now (keys .entry)) (now (draws .entry)) time first second ⌝ }
+{
+    let no = refusal_of(c, draws);
+    if no != refusal::NONE {
+        return turn(first, second, no, Answer::GoingOn, c);
+    }
+    if c.dead {
+        return after_death(c, first, second);
+    }
+    if c.won_level {
+        let next = level_up(c, draws);
+        return turn(first, second, refusal::NONE, Answer::GoingOn, next);
+    }
+    after_keys(c, keys, time, first, second)
+}
