@@ -44,6 +44,15 @@ from-bound test k i (a ∷ l) e = pick-bound (test a) k i (length l) (firstFrom 
 pub first-bound : {A : Type 0} (test : A → Bool) (i : ℕ) (l : List A) → first test l ≡ At i → i < length l
 first-bound test i l e = omega (arith, from-bound test 0 i l e)
 
+-- and has no number below the one that the search began with
+pub from-least : {A : Type 0} (test : A → Bool) (k i : ℕ) (l : List A) → firstFrom test k l ≡ At i → k ≤ i
+from-least test k i [] e = let z : _≡_ {A = ℕ} 0 1 = cc in omega arith
+from-least test k i (a ∷ l) e = go (test a) (from-least test (k + 1) i l) e
+  where
+    go : (b : Bool) → (firstFrom test (k + 1) l ≡ At i → k + 1 ≤ i) → cond b (At k) (firstFrom test (k + 1) l) ≡ At i → k ≤ i
+    go true f q = let z : k ≡ i = cc in omega arith
+    go false f q = omega (arith, f q)
+
 -- nobody is found where none passes, and only there
 from-nobody : {A : Type 0} (test : A → Bool) (k : ℕ) (l : List A) → nobody (firstFrom test k l) ≡ not (any test l)
 from-nobody test k [] = refl

@@ -2,7 +2,7 @@
 use mathlib.Core.Bool.{Bool, true, false, cond, _&&_, _||_, not}
 use mathlib.Core.List.{List, [], _∷_, _++_}
 use mathlib.Core.Path.{_≡_, refl, sym, _∙_, ap, ap₂}
-use Prim.Native.Nat.{ℕ, zero, suc, _+_, _≤_}
+use Prim.Native.Nat.{ℕ, zero, suc, _+_}
 use native.Mathlib.Omega.{arith}
 use lib.Dec.{eqb}
 use lib.ListN.{set}
@@ -12,6 +12,7 @@ use Rattle.laws.proofs.Lists.{any-set, any-append}
 use Rattle.laws.proofs.Choice.{and-left, and-right, and-both, or-left, or-right}
 use Rattle.found.specs.First.{firstFrom}
 use Rattle.found.specs.declared.Found.the-variants.{At}
+use Rattle.found.proofs.First.{from-least}
 use Rattle.mine_state.specs.declared.Enemy.{Enemy}
 use Rattle.mine_state.specs.State.{standsAt}
 use Rattle.mine_state.specs.WellFormed.{apart}
@@ -58,19 +59,11 @@ apart-last (e ∷ p) v a =
     let rest = apart-last p v (apart-tail e (p ++ (v ∷ [])) a) in
     (rw (none .0) (rest .0), rw (with-sym v e ∙ none .1) (rest .1))
 
--- whoever is found on a cell is the only one there: where it goes, and v takes its slot, nobody is left
-found-least : (test : Enemy → Bool) (k i : ℕ) (l : List Enemy) → firstFrom test k l ≡ At i → k ≤ i
-found-least test k i [] e = let z : _≡_ {A = ℕ} 0 1 = cc in omega arith
-found-least test k i (a ∷ l) e = go (test a) (found-least test (k + 1) i l) e
-  where
-    go : (b : Bool) → (firstFrom test (k + 1) l ≡ At i → k + 1 ≤ i) → cond b (At k) (firstFrom test (k + 1) l) ≡ At i → k ≤ i
-    go true f q = let z : k ≡ i = cc in omega arith
-    go false f q = omega (arith, f q)
-
 there : (x y : ℕ) (d : Enemy) → standsAt x y d ≡ true → (x ≡ d .x) × (y ≡ d .y)
 there x y d q =
     (sym (eqb-true (d .x) x (and-left (eqb (d .x) x) (eqb (d .y) y) q)), sym (eqb-true (d .y) y (and-right (eqb (d .x) x) (eqb (d .y) y) q)))
 
+-- whoever is found on a cell is the only one there: where it goes, and v takes its slot, nobody is left
 pub found-gone : (x y k j : ℕ) (p : List Enemy) (v : Enemy) → apart (p ++ (v ∷ [])) ≡ true → firstFrom (standsAt x y) k (p ++ (v ∷ [])) ≡ At (k + j) → any (standsAt x y) (set p j v) ≡ false
 found-gone x y k j [] v a e = refl
 found-gone x y k zero (d ∷ p) v a e = go (standsAt x y d) refl e
@@ -80,7 +73,7 @@ found-gone x y k zero (d ∷ p) v a e = go (standsAt x y d) refl e
         let w = there x y d q in
         let n = any-last (with d) p v (apart-head d (p ++ (v ∷ [])) a) in
         rw (w .0, w .1, n .1) (n .0)
-    go false q e = absurd (let h = found-least (standsAt x y) (k + 1) (k + 0) (p ++ (v ∷ [])) e in omega arith)
+    go false q e = absurd (let h = from-least (standsAt x y) (k + 1) (k + 0) (p ++ (v ∷ [])) e in omega arith)
 found-gone x y k (suc j) (d ∷ p) v a e =
     go (standsAt x y d) e (λ q. found-gone x y (k + 1) j p v (apart-tail d (p ++ (v ∷ [])) a) q)
   where
