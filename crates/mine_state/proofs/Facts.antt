@@ -1,18 +1,18 @@
 -- What a state that is not refused tells, part by part, and back. Assumes nothing.
-use mathlib.Core.Bool.{Bool, true, false, _&&_, false≢true}
+use mathlib.Core.Bool.{Bool, true, _&&_}
 use mathlib.Core.List.{List}
 use mathlib.Core.Path.{_≡_, refl, sym}
 use Prim.Native.Nat.{ℕ}
-use native.Mathlib.Omega.{arith}
 use lib.Dec.{leb, eqb}
 use lib.ListN.{length, drop}
 use borrow.Author.Tests.{eqb-true, leb-true, eq-eqb, le-leb}
 use Rattle.laws.specs.Lists.{all}
-use Rattle.laws.proofs.Choice.{and-left, and-right}
+use Rattle.laws.proofs.Choice.{and-left, and-right, and-three}
+use Rattle.refusal.proofs.Checks.{none-passes, passes-none}
 use Rattle.mine_state.specs.declared.Mine.{Mine}
 use Rattle.mine_state.specs.State.{AREA, MAX-ENEMIES, place, isCode, creatures, purse}
 use Rattle.mine_state.specs.Spots.{spotsFrom, Stand}
-use Rattle.mine_state.specs.WellFormed.{cellsOk, playerOk, creatureOk, apart, blank, creaturesOk, numbersOk, wellFormed, checked, refusalOf, WellFormed, Sound}
+use Rattle.mine_state.specs.WellFormed.{cellsOk, playerOk, creatureOk, apart, blank, creaturesOk, numbersOk, wellFormed, refusalOf, WellFormed, Sound}
 use Rattle.mine_state.proofs.Cells.{empty-inside}
 use Rattle.mine_state.proofs.Creatures.{slots-on-map}
 
@@ -22,34 +22,13 @@ unfolding cellsOk
 cells-ok m a b e = simp (eq-eqb (length (m .grid)) AREA a, eq-eqb (length (m .falling)) AREA b) (sym e)
 
 -- no number is given where all four checks pass, and only there
-none : (a b c d : Bool) → checked a b c d ≡ 0 → (a && b && c && d) ≡ true
-none true true true true e = refl
-none true true true false e = absurd (let q : ⊥ = omega arith in q)
-none true true false d e = absurd (let q : ⊥ = omega arith in q)
-none true false c d e = absurd (let q : ⊥ = omega arith in q)
-none false true c d e = absurd (let q : ⊥ = omega arith in q)
-none false false c d e = absurd (let q : ⊥ = omega arith in q)
-
-pass : (a b c d : Bool) → (a && b && c && d) ≡ true → checked a b c d ≡ 0
-pass true true true true e = refl
-pass true true true false e = absurd (false≢true e)
-pass true true false d e = absurd (false≢true e)
-pass true false c d e = absurd (false≢true e)
-pass false b c d e = absurd (false≢true e)
-
 none-well-formed : (m : Mine) → refusalOf m ≡ 0 → wellFormed m ≡ true
 unfolding refusalOf wellFormed
-none-well-formed m e = none (cellsOk m) (playerOk m) (creaturesOk m) (numbersOk m) e
+none-well-formed m e = none-passes (cellsOk m) (playerOk m) (creaturesOk m) (numbersOk m) e
 
 pub well-formed-none : (m : Mine) → wellFormed m ≡ true → refusalOf m ≡ 0
 unfolding refusalOf wellFormed
-well-formed-none m e = pass (cellsOk m) (playerOk m) (creaturesOk m) (numbersOk m) e
-
--- the parts of a chain of tests
-three : (a b c : Bool) → (a && b && c) ≡ true → (a ≡ true) × (b ≡ true) × (c ≡ true)
-three a b c e =
-    let l = and-left (a && b) c e in
-    (and-left a b l, and-right a b l, and-right (a && b) c e)
+well-formed-none m e = passes-none (cellsOk m) (playerOk m) (creaturesOk m) (numbersOk m) e
 
 pub facts : (m : Mine) → wellFormed m ≡ true → WellFormed m
 unfolding wellFormed cellsOk creaturesOk numbersOk
@@ -58,11 +37,11 @@ facts m e =
     let each = all (creatureOk (m .grid)) (creatures m) in
     let last = all blank (drop (m .count) (m .enemies)) in
     let n = and-right (cellsOk m && playerOk m && creaturesOk m) (numbersOk m) e in
-    let t = three (cellsOk m) (playerOk m) (creaturesOk m) (and-left (cellsOk m && playerOk m && creaturesOk m) (numbersOk m) e) in
-    let g = three (eqb (length (m .grid)) AREA) (eqb (length (m .falling)) AREA) (all isCode (m .grid)) (t .0) in
-    let c = three (sized && each) (apart (creatures m)) (last) (t .2) in
-    let s = three (eqb (length (m .enemies)) MAX-ENEMIES) (leb (m .count) MAX-ENEMIES) (each) (c .0) in
-    let k = three (leb (purse m) AREA) (leb 1 (m .needed)) (leb (m .needed) AREA) n in
+    let t = and-three (cellsOk m) (playerOk m) (creaturesOk m) (and-left (cellsOk m && playerOk m && creaturesOk m) (numbersOk m) e) in
+    let g = and-three (eqb (length (m .grid)) AREA) (eqb (length (m .falling)) AREA) (all isCode (m .grid)) (t .0) in
+    let c = and-three (sized && each) (apart (creatures m)) (last) (t .2) in
+    let s = and-three (eqb (length (m .enemies)) MAX-ENEMIES) (leb (m .count) MAX-ENEMIES) (each) (c .0) in
+    let k = and-three (leb (purse m) AREA) (leb 1 (m .needed)) (leb (m .needed) AREA) n in
     record {
       cells = eqb-true (length (m .grid)) AREA (g .0);
       marks = eqb-true (length (m .falling)) AREA (g .1);

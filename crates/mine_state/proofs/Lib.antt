@@ -2,3 +2,4 @@ pub mod Creatures
 pub mod Cells
 pub mod Places
 pub mod Facts
+pub mod Cases
