@@ -23,7 +23,7 @@ pub enum Says {
 }
 
 // Puts bytes at `at`, and answers where they end.
-fn put(bytes: &[u8], out: &mut [u8], at: usize) -> usize
+pub fn put(bytes: &[u8], out: &mut [u8], at: usize) -> usize
     requires { ⌜ at + length (now bytes) ≤ length (now out) ⌝ }
     ensures { λ r. ⌜ Puts (now (bytes .entry)) at (now (out .entry)) r (now (out .exit)) ⌝ }
 {
@@ -35,7 +35,7 @@ fn put(bytes: &[u8], out: &mut [u8], at: usize) -> usize
     at + i
 }
 
-fn put_number(n: u64, out: &mut [u8], at: usize) -> usize
+pub fn put_number(n: u64, out: &mut [u8], at: usize) -> usize
     requires { ⌜ at + DIGITS ≤ length (now out) ⌝ }
     ensures { λ r. ⌜ Puts (decimal n) at (now (out .entry)) r (now (out .exit)) ⌝ }
 {
