@@ -7,6 +7,7 @@
 pub mod bytes;
 pub mod calls;
 pub mod check;
+pub mod console;
 pub mod games;
 pub mod host;
 pub mod lines;

@@ -1,0 +1,72 @@
+// A script of bytes, one to a turn, with a clock of its own.
+use crate::WORD;
+use crate::screen;
+use libc::STDIN_FILENO;
+use std::num::wrapping_add_u32;
+ghost use Prim.Native.Nat.{_≤_};
+ghost use lib.ListN.{length};
+
+// Cycles to a turn.
+const STEP: u32 = 1_200_000;
+
+const SHOW: u8 = b'=';
+
+const BAR: u8 = b'|';
+
+// Plays Block Mine up to the bar, and answers where the rest begins.
+fn play_mine(bytes: &[u8]) -> usize
+    ensures { λ r. ⌜ r ≤ length (now (bytes .entry)) ⌝ }
+{
+    let mut time: u32 = 0;
+    let mut p = turns::mine_start(time);
+    let mut waits = keys::PLAIN;
+    let mut i: usize = 0;
+    while i < bytes.len() {
+        let b = bytes[i];
+        i += 1;
+        if b == BAR {
+            return i;
+        }
+        if b == SHOW {
+            screen::show(screen::mine_screen(p));
+        } else {
+            time = wrapping_add_u32(time, STEP);
+            let mut key = [b];
+            waits = keys::hear(waits, &mut key);
+            p = turns::mine_turn(p, &key, time);
+        }
+    }
+    i
+}
+
+// Plays Block Cutter.
+fn play_cutter(bytes: &[u8], draws: [u8; WORD]) {
+    let mut time: u32 = 0;
+    let n = screen::within(turns::ROUND, &draws);
+    let mut p = turns::cutter_start(&draws[..n], time);
+    let mut waits = keys::PLAIN;
+    let mut i: usize = 0;
+    while i < bytes.len() {
+        let b = bytes[i];
+        i += 1;
+        if b == SHOW {
+            screen::show(screen::cutter_screen(p));
+        } else {
+            time = wrapping_add_u32(time, STEP);
+            let mut key = [b];
+            waits = keys::hear(waits, &mut key);
+            let k = screen::within(turns::cutter_draws(p), &draws);
+            p = turns::cutter_turn(p, &key, &draws[..k], time);
+        }
+    }
+}
+
+pub fn play(word: [u8; WORD]) {
+    let mut draws = word;
+    turns::to_draws(&mut draws);
+    let mut input = io::large_buffer();
+    let n = io::read_full(STDIN_FILENO, &mut input);
+    let text = &input[..n];
+    let k = play_mine(text);
+    play_cutter(&text[k..], draws);
+}
