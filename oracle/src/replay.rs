@@ -65,10 +65,16 @@ pub struct Report {
     pub first: Option<Difference>,
 }
 
+impl fmt::Display for Difference {
+    fn fmt(&self, f: &mut fmt::Formatter<'_>) -> fmt::Result {
+        write!(f, "entry {} at {}, call {}: {}", self.entry, self.offset, self.call, self.part)
+    }
+}
+
 impl fmt::Display for Report {
     fn fmt(&self, f: &mut fmt::Formatter<'_>) -> fmt::Result {
         if let Some(d) = self.first {
-            writeln!(f, "entry {} at {}, call {}: {}", d.entry, d.offset, d.call, d.part)?;
+            writeln!(f, "{d}")?;
         }
         writeln!(f, "{} calls, {} differ", self.calls, self.differ)
     }
@@ -89,7 +95,20 @@ pub struct Seen<'a> {
 }
 
 /// The same, showing each call.
-pub fn replay_seen(mut input: impl Read, mut see: impl FnMut(Seen)) -> io::Result<Report> {
+pub fn replay_seen(input: impl Read, see: impl FnMut(Seen)) -> io::Result<Report> {
+    run(input, see, |_| {})
+}
+
+/// The same, telling each difference.
+pub fn replay_each(input: impl Read, tell: impl FnMut(Difference)) -> io::Result<Report> {
+    run(input, |_| {}, tell)
+}
+
+fn run(
+    mut input: impl Read,
+    mut see: impl FnMut(Seen),
+    mut tell: impl FnMut(Difference),
+) -> io::Result<Report> {
     let mut report = Report::default();
     let mut state = None;
     let mut offset = 0;
@@ -104,8 +123,10 @@ pub fn replay_seen(mut input: impl Read, mut see: impl FnMut(Seen)) -> io::Resul
             None => Err(Part::Unreadable),
         };
         if let Err(part) = differs {
+            let difference = Difference { entry: number, offset, call, part };
             report.differ += 1;
-            report.first.get_or_insert(Difference { entry: number, offset, call, part });
+            report.first.get_or_insert(difference);
+            tell(difference);
         }
         if differs == Err(Part::Unreadable) {
             break;

@@ -16,5 +16,6 @@ pub use numbers::MARK;
 pub use numbers::PLACE;
 pub use numbers::fill;
 pub use numbers::put_cells;
+pub use numbers::put_pair;
 pub use numbers::put_word;
 pub use numbers::word;

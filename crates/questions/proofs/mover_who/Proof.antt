@@ -1,0 +1,114 @@
+-- `questions::mover_who` meets its contract. Assumes nothing.
+use borrow.Author.Needs.{needs}
+use native.Mathlib.Omega.{arith}
+use mathlib.Core.List.{List}
+use mathlib.Core.Path.{_≡_, refl, sym, ap, _∙_}
+use Prim.Native.Nat.{ℕ, _-_, _*_, _/_, _<_}
+use lib.ListN.{length, take, drop, length-take}
+use borrow.Author.Tests.{lt-ltb}
+use Rattle.laws.proofs.Table.{length-table}
+use Rattle.found.specs.First.{firstFrom, first}
+use Rattle.found.proofs.First.{first-bound}
+use Rattle.ground.specs.Cells.{MAX-ENEMIES, standsAt}
+use Rattle.ground.specs.declared.Mover.{Mover}
+use Rattle.trace.specs.Cutters.{MOVER, moverAt}
+use Rattle.questions.specs.Lists.{noMover, moverOr, moversFrom, moversIn}
+use Rattle.questions.proofs.Parts.{part-is, part-found, part-none, parts-end}
+use Rattle.questions.proofs.mover_who.Statement.{statement}
+use Rattle.questions.proofs.mover_who.Tie as tie
+
+-- a part of the list, as it is asked
+there : (l : List ℕ) (k : ℕ) → k < length l / MOVER → moverOr (length l / MOVER) l k ≡ moverAt (k * MOVER) l
+unfolding moverOr
+there l k h = rw (lt-ltb k (length l / MOVER) h)
+
+part-here : (l : List ℕ) (from : ℕ) → from < length l / MOVER → take (length l / MOVER - from) (moversFrom (length l / MOVER) l from) ≡ take MAX-ENEMIES (drop from (moversIn l))
+unfolding moversFrom moversIn
+part-here l from h = part-is (λ (k : ℕ). moverAt (k * MOVER) l) (moverOr (length l / MOVER) l) noMover (length l / MOVER) MAX-ENEMIES from h (there l)
+
+all-of : (l : List ℕ) → length (moversIn l) ≡ length l / MOVER
+unfolding moversIn
+all-of l = length-table (length l / MOVER) (λ (k : ℕ). moverAt (k * MOVER) l)
+
+abbrev Inv-loop : tie.InvT-loop
+Inv-loop list x y n from₀ from = firstFrom (standsAt x y) from (drop from (moversIn list)) ≡ first (standsAt x y) (moversIn list)
+
+abbrev μ-loop : tie.MeasureT-loop
+μ-loop list x y n from₀ from = n - from
+
+loop-holds : tie.Need-loop-holds Inv-loop μ-loop
+loop-holds c = refl
+
+movers-from-requires : tie.Need-movers-from-requires Inv-loop μ-loop
+movers-from-requires c κs = record { inside = omega arith; one = c .loop-test .taken }
+
+sub-who-of : tie.Need-sub-who-of Inv-loop μ-loop
+sub-who-of c = search needs
+
+who-of-requires : tie.Need-who-of-requires Inv-loop μ-loop
+who-of-requires c κs = search needs
+
+enum-known-i : tie.Need-enum-known-i Inv-loop μ-loop
+enum-known-i c = search needs
+
+add-t12 : tie.Need-add-t12 Inv-loop μ-loop
+add-t12 c =
+    let a = c .before .before .before .before .before .before .before .before .args in
+    let s = c .before .before .before .before .before .before .loop in
+    let l = a .list .now in
+    let n = length l / MOVER in
+    let asked = c .before .before .before .«who-of» .ensures ∙ ap (λ (p : List Mover). first (standsAt (a .x) (a .y)) (take (n - s .from) p)) (c .before .before .before .before .«movers-from» .ensures) ∙ ap (first (standsAt (a .x) (a .y))) (part-here l (s .from) (omega arith)) in
+    let b = first-bound (standsAt (a .x) (a .y)) _ (take MAX-ENEMIES (drop (s .from) (moversIn l))) (sym asked ∙ c .before .i .given .1) in
+    omega (arith, b, length-take MAX-ENEMIES (drop (s .from) (moversIn l)))
+
+returns : tie.Need-returns Inv-loop μ-loop
+returns c =
+    let a = c .before .before .before .before .before .before .before .before .args in
+    let s = c .before .before .before .before .before .before .loop in
+    let l = a .list .now in
+    let n = length l / MOVER in
+    let asked = c .before .before .before .«who-of» .ensures ∙ ap (λ (p : List Mover). first (standsAt (a .x) (a .y)) (take (n - s .from) p)) (c .before .before .before .before .«movers-from» .ensures) ∙ ap (first (standsAt (a .x) (a .y))) (part-here l (s .from) (omega arith)) in
+    part-found (standsAt (a .x) (a .y)) (moversIn l) MAX-ENEMIES (s .from) (s .inv) _ (sym asked ∙ c .before .i .given .1)
+
+enum-told : tie.Need-enum-told Inv-loop μ-loop
+enum-told c = search needs
+
+add-from : tie.Need-add-from Inv-loop μ-loop
+add-from c = omega arith
+
+loop-less : tie.Need-loop-less Inv-loop μ-loop
+loop-less c = omega arith
+
+loop-again : tie.Need-loop-again Inv-loop μ-loop
+loop-again c =
+    let a = c .before .before .before .before .before .before .before .args in
+    let s = c .before .before .before .before .before .loop in
+    let l = a .list .now in
+    let n = length l / MOVER in
+    let asked = c .before .before .«who-of» .ensures ∙ ap (λ (p : List Mover). first (standsAt (a .x) (a .y)) (take (n - s .from) p)) (c .before .before .before .«movers-from» .ensures) ∙ ap (first (standsAt (a .x) (a .y))) (part-here l (s .from) (omega arith)) in
+    part-none (standsAt (a .x) (a .y)) (moversIn l) MAX-ENEMIES (s .from) (s .inv) (sym asked ∙ c .enum-told .given .1)
+
+returns-2 : tie.Need-returns-2 Inv-loop μ-loop
+returns-2 c =
+    let a = c .before .before .before .args in
+    let s = c .before .loop in
+    parts-end (standsAt (a .x) (a .y)) (moversIn (a .list .now)) 0 (s .from) (s .inv) (omega (arith, all-of (a .list .now)))
+
+pub mover-who-spec : {M : Type 1} → statement M
+mover-who-spec =
+    tie.close
+    (tie.spec
+    Inv-loop
+    μ-loop
+    loop-holds
+    movers-from-requires
+    sub-who-of
+    who-of-requires
+    enum-known-i
+    add-t12
+    returns
+    enum-told
+    add-from
+    loop-less
+    loop-again
+    returns-2)

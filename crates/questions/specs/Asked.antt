@@ -1,0 +1,40 @@
+-- Calls 7 and 26 of a trace: x 8, y 8, then the creatures; the index in 8 bytes, nothing for nobody.
+use mathlib.Core.Bool.{cond}
+use mathlib.Core.List.{List, []}
+use Prim.Native.Nat.{ℕ, _%_}
+use lib.Dec.{eqb, ltb}
+use lib.ListN.{length, drop}
+use Rattle.found.specs.declared.Found.{Found}
+use Rattle.found.specs.declared.Found.the-variants.{At, Nobody}
+use Rattle.mine.specs.Question as Mine
+use Rattle.cutter.specs.Question as Cutter
+use Rattle.trace.specs.Numbers.{PLACE, bytesIn, wordAt}
+use Rattle.trace.specs.Mines.{ENEMY}
+use Rattle.trace.specs.Cutters.{MOVER}
+use Rattle.verdict.specs.Compare.{compared}
+use Rattle.verdict.specs.declared.Head.{Head}
+use Rattle.verdict.specs.declared.Part.{Part}
+use Rattle.verdict.specs.declared.Part.the-variants.{Unread}
+use Rattle.questions.specs.Lists.{enemiesIn, moversIn}
+
+-- a question refuses nothing and leaves the state
+abbrev pub foundBytes : Found → List ℕ
+foundBytes (At i) = bytesIn PLACE i
+foundBytes Nobody = []
+
+unfoldable pub foundTold : Head → (current state result : List ℕ) → Found → Part
+foundTold h current state result f = compared h current state result 0 0 current (foundBytes f)
+
+abbrev pub BEFORE-LIST : ℕ
+BEFORE-LIST = 16
+
+-- the place, then whole creatures of k bytes each; anything else can't be read
+unfoldable pub asked : ℕ → List ℕ → Part → Part
+asked k args p = cond (ltb (length args) BEFORE-LIST) Unread (cond (eqb (length (drop BEFORE-LIST args) % k) 0) p Unread)
+
+module _ (h : Head) (args current state result : List ℕ) where
+  unfoldable pub mineAsked : Part
+  mineAsked = asked ENEMY args (foundTold h current state result (Mine.whoAt (enemiesIn (drop BEFORE-LIST args)) (wordAt PLACE 0 args) (wordAt PLACE PLACE args)))
+
+  unfoldable pub moverAsked : Part
+  moverAsked = asked MOVER args (foundTold h current state result (Cutter.whoAt (moversIn (drop BEFORE-LIST args)) (wordAt PLACE 0 args) (wordAt PLACE PLACE args)))

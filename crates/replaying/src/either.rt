@@ -1,0 +1,101 @@
+// The calls that either game's state allows, and what the calls of both share.
+use crate::cutters::cutter_told;
+use crate::mines::mine_told;
+use pace::Pace;
+use questions::NONE;
+use questions::mine_asked;
+use questions::mover_asked;
+use trace::MARK;
+use trace::PLACE;
+use trace::word;
+use verdict::Head;
+use verdict::Part;
+use verdict::compared_with;
+ghost use mathlib.Core.Path.{_≡_};
+ghost use lib.ListN.{length};
+ghost use Rattle.replaying.specs.Frames.{MOST};
+
+// Numbers of the calls.
+const LOAD: u8 = 1;
+
+const MINE_WHO: u8 = 7;
+
+const NEW_ROUND: u8 = 17;
+
+const CUTTER_WHO: u8 = 26;
+
+pub const START: u8 = 32;
+
+const PAGE: u8 = 33;
+
+// Each byte of a frame before its picture.
+const STALE: u8 = 165;
+
+// More than the bytes of any part of an entry.
+pub const MOST: usize = 65536;
+
+// A frame before its picture.
+pub fn stale() -> [u8; MOST]
+    ensures { λ r. ⌜ length r ≡ MOST ⌝ }
+{
+    [STALE; MOST]
+}
+
+// The record at the end of a state.
+pub fn marks_of(current: &[u8]) -> Pace {
+    let n = current.len();
+    if n < verdict::RECORD {
+        return Pace {
+            first: 0,
+            second: 0,
+        };
+    }
+    Pace {
+        first: word(current, n - verdict::RECORD, MARK) as u32,
+        second: word(current, n - MARK, MARK) as u32,
+    }
+}
+
+fn load(h: Head, p: Pace, args: &[u8], current: &[u8], state: &[u8], result: &[u8]) -> Part {
+    if args.len() != 0 {
+        return Part::Unread;
+    }
+    mine_told(h, NONE, NONE, mine::load(), p, current, state, result)
+}
+
+// A refused new round leaves the current state.
+fn new_round(h: Head, p: Pace, draws: &[u8], current: &[u8], state: &[u8], result: &[u8]) -> Part {
+    let a = cutter::new_round(draws);
+    if a.refusal != refusal::NONE {
+        return compared_with(h, a.refusal, NONE, current, current, state, b"", result);
+    }
+    cutter_told(h, NONE, NONE, a.game, p, current, state, result)
+}
+
+fn page(h: Head, args: &[u8], current: &[u8], state: &[u8], result: &[u8]) -> Part {
+    if args.len() < PLACE {
+        return Part::Unread;
+    }
+    let number = word(args, 0, PLACE) as usize;
+    let told = frame::page(&args[PLACE..], number);
+    compared_with(h, NONE, NONE, current, current, state, told, result)
+}
+
+pub fn on_either(
+    h: Head,
+    p: Pace,
+    args: &[u8],
+    current: &[u8],
+    state: &[u8],
+    result: &[u8],
+) -> Part {
+    let call = h.call;
+    match call {
+        LOAD => load(h, p, args, current, state, result),
+        MINE_WHO => mine_asked(h, args, current, state, result),
+        NEW_ROUND => new_round(h, p, args, current, state, result),
+        CUTTER_WHO => mover_asked(h, args, current, state, result),
+        PAGE => page(h, args, current, state, result),
+        _ => Part::Unread,
+    }
+}

@@ -1,0 +1,43 @@
+// One entry of a trace.
+use crate::cutters::on_cutter;
+use crate::mines::on_mine;
+use questions::NONE;
+use trace::CUTTER;
+use trace::MINE;
+use verdict::Head;
+use verdict::Part;
+
+// The entry that sets the current state.
+pub const SET: u8 = 0;
+
+// A state has the length of one of the games.
+fn is_state(n: usize) -> bool {
+    (n == MINE) | (n == CUTTER)
+}
+
+// The current state becomes the one given, and nothing else is told.
+fn set(h: Head, args: &[u8], state: &[u8], result: &[u8]) -> Part {
+    if (h.refusal == NONE) & (h.answer == NONE) {
+        if (args.len() == 0) & (result.len() == 0) & is_state(state.len()) {
+            return Part::Same;
+        }
+    }
+    Part::Unread
+}
+
+// Makes the entry's call on the current state and compares.
+pub fn judge(h: Head, args: &[u8], state: &[u8], result: &[u8], current: &[u8]) -> Part {
+    if h.call == SET {
+        return set(h, args, state, result);
+    }
+    if (state.len() != 0) & !is_state(state.len()) {
+        return Part::Unread;
+    }
+    if current.len() == MINE {
+        return on_mine(h, args, current, state, result);
+    }
+    if current.len() == CUTTER {
+        return on_cutter(h, args, current, state, result);
+    }
+    Part::Unread
+}
