@@ -1,3 +1,4 @@
+pub mod Cases
 pub mod Signs
 pub mod Codes
 pub mod Ring
