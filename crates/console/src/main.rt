@@ -3,19 +3,16 @@
 // up to `|`, then Block Cutter; `=` shows the screen.
 //
 // stdin, args: a play of each. stdout: what the oracle's `console_oracle WORD` prints for it.
-mod live;
-mod screen;
-mod script;
-
 use libc::STDERR_FILENO;
-use screen::same;
+use screens::same;
+use turns::DRAWS;
 
-// Room for an argument, and for as many random bytes as a turn takes.
-const WORD: usize = 64;
+// Room for a name, and for a word.
+const WORD: usize = DRAWS;
 
 fn main() {
     let mut word = [0u8; WORD];
-    let n = os::arg(2, &mut word);
+    os::arg(2, &mut word);
     let fixed = 2 < os::arg_count();
     let mut name = [0u8; WORD];
     let k = os::arg(1, &mut name);
@@ -28,7 +25,7 @@ fn main() {
         return;
     }
     if same(&name[..k], b"script") {
-        script::play(word);
+        scripted::play_script(word);
         return;
     }
     io::write_all(

@@ -1,9 +1,9 @@
 // A game by the system's clock, with keys from the terminal.
-use crate::WORD;
-use crate::screen;
-use crate::screen::within;
 use libc::STDIN_FILENO;
+use libc::STDOUT_FILENO;
+use screens::within;
 use turns::CutterPlay;
+use turns::DRAWS;
 use turns::MinePlay;
 use turns::QUIT;
 
@@ -77,6 +77,10 @@ fn mine_step(m: Mining, terminal: bool) -> Mining {
     }
 }
 
+fn tell_spent() {
+    io::write_all(STDOUT_FILENO, b"no turn is left\n");
+}
+
 pub fn play_mine() {
     let terminal = on_terminal();
     let start = turns::mine_start(clock::reading());
@@ -85,23 +89,24 @@ pub fn play_mine() {
         waits: keys::PLAIN,
         ended: false,
     };
-    let mut shown = screen::mine_screen(start);
-    screen::begin(shown);
+    let mut shown = screens::mine_screen(start);
+    screens::begin(shown);
     let mut turn: u32 = 0;
     while turn < TURNS {
         turn += 1;
         m = mine_step(m, terminal);
         let play = m.play;
-        shown = screen::refresh(screen::mine_screen(play), shown);
+        shown = screens::refresh(screens::mine_screen(play), shown);
         if m.ended {
             return;
         }
         clock::nap(NAP);
     }
+    tell_spent();
 }
 
 // As many draws as a call can take: of the word, or of the system's random bytes.
-fn drawn(fixed: bool, word: [u8; WORD]) -> [u8; WORD] {
+fn drawn(fixed: bool, word: [u8; DRAWS]) -> [u8; DRAWS] {
     let mut bytes = word;
     if fixed {
         turns::to_draws(&mut bytes);
@@ -112,12 +117,12 @@ fn drawn(fixed: bool, word: [u8; WORD]) -> [u8; WORD] {
     bytes
 }
 
-fn cutter_begin(draws: [u8; WORD]) -> CutterPlay {
+fn cutter_begin(draws: [u8; DRAWS]) -> CutterPlay {
     let n = within(turns::ROUND, &draws);
     turns::cutter_start(&draws[..n], clock::reading())
 }
 
-fn cutter_step(c: Cutting, terminal: bool, draws: [u8; WORD]) -> Cutting {
+fn cutter_step(c: Cutting, terminal: bool, draws: [u8; DRAWS]) -> Cutting {
     let mut bytes = [0u8; KEYS];
     let input = listen(terminal, &mut bytes);
     if input.ended {
@@ -139,14 +144,14 @@ fn cutter_step(c: Cutting, terminal: bool, draws: [u8; WORD]) -> Cutting {
 }
 
 // The draws of the next turn, made anew where it takes any.
-fn next_draws(p: CutterPlay, fixed: bool, word: [u8; WORD]) -> [u8; WORD] {
+fn next_draws(p: CutterPlay, fixed: bool, word: [u8; DRAWS]) -> [u8; DRAWS] {
     if turns::cutter_draws(p) == 0 {
         return word;
     }
     drawn(fixed, word)
 }
 
-pub fn play_cutter(fixed: bool, word: [u8; WORD]) {
+pub fn play_cutter(fixed: bool, word: [u8; DRAWS]) {
     let terminal = on_terminal();
     let start = cutter_begin(drawn(fixed, word));
     let mut c = Cutting {
@@ -154,18 +159,19 @@ pub fn play_cutter(fixed: bool, word: [u8; WORD]) {
         waits: keys::PLAIN,
         ended: false,
     };
-    let mut shown = screen::cutter_screen(start);
-    screen::begin(shown);
+    let mut shown = screens::cutter_screen(start);
+    screens::begin(shown);
     let mut turn: u32 = 0;
     while turn < TURNS {
         turn += 1;
         let before = c.play;
         c = cutter_step(c, terminal, next_draws(before, fixed, word));
         let play = c.play;
-        shown = screen::refresh(screen::cutter_screen(play), shown);
+        shown = screens::refresh(screens::cutter_screen(play), shown);
         if c.ended {
             return;
         }
         clock::nap(NAP);
     }
+    tell_spent();
 }

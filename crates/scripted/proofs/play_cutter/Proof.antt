@@ -1,10 +1,10 @@
--- `console::script::play_cutter` is safe and ends. Assumes nothing.
+-- `scripted::play_cutter` is safe and ends. Assumes nothing.
 use Prim.Native.Nat.{_-_}
 use native.Mathlib.Omega.{arith}
 use lib.ListN.{length}
 use borrow.Author.Needs.{needs}
-use Rattle.console.proofs.script.play_cutter.Statement.{statement}
-use Rattle.console.proofs.script.play_cutter.Tie as tie
+use Rattle.scripted.proofs.play_cutter.Statement.{statement}
+use Rattle.scripted.proofs.play_cutter.Tie as tie
 use Rattle.std.proofs.num.wrapping_add_u32.Reads as wrapping-add-u32-reads
 
 abbrev Inv-loop : tie.InvT-loop

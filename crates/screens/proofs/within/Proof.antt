@@ -1,10 +1,10 @@
--- `console::within` meets its contract. Assumes nothing.
+-- `screens::within` meets its contract. Assumes nothing.
 use mathlib.Core.Path.{refl, sym}
 use native.Mathlib.Omega.{arith}
 use lib.Seq.{length-take-le}
 use borrow.Author.Needs.{needs}
-use Rattle.console.proofs.screen.within.Statement.{statement}
-use Rattle.console.proofs.screen.within.Tie as tie
+use Rattle.screens.proofs.within.Statement.{statement}
+use Rattle.screens.proofs.within.Tie as tie
 
 returns : tie.Need-returns
 returns c = (omega arith, sym (length-take-le _ _ (omega arith)))

@@ -5,14 +5,18 @@ use libc::STDOUT_FILENO;
 use turns::CutterPlay;
 use turns::MinePlay;
 ghost use Rattle.io.specs.Counts.{Counts};
+ghost use Rattle.screens.specs.Screens.{MineShown, CutterShown};
 
+// A head line, its bytes up to `end`, and a frame.
 pub struct Screen {
     pub head: [u8; HEAD],
     pub end: usize,
     pub frame: [u8; FRAME_LEN],
 }
 
-pub fn mine_screen(p: MinePlay) -> Screen {
+pub fn mine_screen(p: MinePlay) -> Screen
+    ensures { λ r. ⌜ MineShown p r ⌝ }
+{
     let m = p.game;
     let mut head = [0u8; HEAD];
     let end = heads::mine_head(m.coins, m.needed, p.stands, &mut head);
@@ -21,7 +25,9 @@ pub fn mine_screen(p: MinePlay) -> Screen {
     Screen { head, end, frame }
 }
 
-pub fn cutter_screen(p: CutterPlay) -> Screen {
+pub fn cutter_screen(p: CutterPlay) -> Screen
+    ensures { λ r. ⌜ CutterShown p r ⌝ }
+{
     let c = p.game;
     let ground = cutter::ground_report(c);
     let mut head = [0u8; HEAD];

@@ -1,10 +1,10 @@
--- `console::play_mine` is safe and ends. Assumes nothing.
+-- `scripted::play_mine` is safe and ends. Assumes nothing.
 use Prim.Native.Nat.{_-_, _≤_}
 use native.Mathlib.Omega.{arith}
 use lib.ListN.{length}
 use borrow.Author.Needs.{needs}
-use Rattle.console.proofs.script.play_mine.Statement.{statement}
-use Rattle.console.proofs.script.play_mine.Tie as tie
+use Rattle.scripted.proofs.play_mine.Statement.{statement}
+use Rattle.scripted.proofs.play_mine.Tie as tie
 use Rattle.std.proofs.num.wrapping_add_u32.Reads as wrapping-add-u32-reads
 
 abbrev Inv-loop : tie.InvT-loop

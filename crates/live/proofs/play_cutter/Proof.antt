@@ -1,9 +1,9 @@
--- `console::live::play_cutter` is safe, and ends after so many turns at most. Assumes nothing.
+-- `live::play_cutter` is safe, and ends after so many turns at most. Assumes nothing.
 use Prim.Native.Nat.{_-_}
 use native.Mathlib.Omega.{arith}
 use borrow.Author.Needs.{needs}
-use Rattle.console.proofs.live.play_cutter.Statement.{statement}
-use Rattle.console.proofs.live.play_cutter.Tie as tie
+use Rattle.live.proofs.play_cutter.Statement.{statement}
+use Rattle.live.proofs.play_cutter.Tie as tie
 
 abbrev Inv-loop : tie.InvT-loop
 Inv-loop fixed word terminal c₀ shown₀ turn₀ c shown turn = Unit {0}
@@ -56,6 +56,9 @@ loop-less c = omega arith
 loop-again : tie.Need-loop-again Inv-loop μ-loop
 loop-again c = tt
 
+tell-spent-requires : tie.Need-tell-spent-requires Inv-loop μ-loop
+tell-spent-requires c κs = search needs
+
 returns-2 : tie.Need-returns-2 Inv-loop μ-loop
 returns-2 c = search needs
 
@@ -80,4 +83,5 @@ play-cutter-spec =
     nap-requires
     loop-less
     loop-again
+    tell-spent-requires
     returns-2)

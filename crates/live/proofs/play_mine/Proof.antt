@@ -1,9 +1,9 @@
--- `console::live::play_mine` is safe, and ends after so many turns at most. Assumes nothing.
+-- `live::play_mine` is safe, and ends after so many turns at most. Assumes nothing.
 use Prim.Native.Nat.{_-_}
 use native.Mathlib.Omega.{arith}
 use borrow.Author.Needs.{needs}
-use Rattle.console.proofs.live.play_mine.Statement.{statement}
-use Rattle.console.proofs.live.play_mine.Tie as tie
+use Rattle.live.proofs.play_mine.Statement.{statement}
+use Rattle.live.proofs.play_mine.Tie as tie
 
 abbrev Inv-loop : tie.InvT-loop
 Inv-loop terminal m₀ shown₀ turn₀ m shown turn = Unit {0}
@@ -53,6 +53,9 @@ loop-less c = omega arith
 loop-again : tie.Need-loop-again Inv-loop μ-loop
 loop-again c = tt
 
+tell-spent-requires : tie.Need-tell-spent-requires Inv-loop μ-loop
+tell-spent-requires c κs = search needs
+
 returns-2 : tie.Need-returns-2 Inv-loop μ-loop
 returns-2 c = search needs
 
@@ -76,4 +79,5 @@ play-mine-spec =
     nap-requires
     loop-less
     loop-again
+    tell-spent-requires
     returns-2)

@@ -1,8 +1,7 @@
 // A script of bytes, one to a turn, with a clock of its own.
-use crate::WORD;
-use crate::screen;
 use libc::STDIN_FILENO;
 use std::num::wrapping_add_u32;
+use turns::DRAWS;
 ghost use Prim.Native.Nat.{_≤_};
 ghost use lib.ListN.{length};
 
@@ -28,7 +27,7 @@ fn play_mine(bytes: &[u8]) -> usize
             return i;
         }
         if b == SHOW {
-            screen::show(screen::mine_screen(p));
+            screens::show(screens::mine_screen(p));
         } else {
             time = wrapping_add_u32(time, STEP);
             let mut key = [b];
@@ -40,9 +39,9 @@ fn play_mine(bytes: &[u8]) -> usize
 }
 
 // Plays Block Cutter.
-fn play_cutter(bytes: &[u8], draws: [u8; WORD]) {
+fn play_cutter(bytes: &[u8], draws: [u8; DRAWS]) {
     let mut time: u32 = 0;
-    let n = screen::within(turns::ROUND, &draws);
+    let n = screens::within(turns::ROUND, &draws);
     let mut p = turns::cutter_start(&draws[..n], time);
     let mut waits = keys::PLAIN;
     let mut i: usize = 0;
@@ -50,18 +49,18 @@ fn play_cutter(bytes: &[u8], draws: [u8; WORD]) {
         let b = bytes[i];
         i += 1;
         if b == SHOW {
-            screen::show(screen::cutter_screen(p));
+            screens::show(screens::cutter_screen(p));
         } else {
             time = wrapping_add_u32(time, STEP);
             let mut key = [b];
             waits = keys::hear(waits, &mut key);
-            let k = screen::within(turns::cutter_draws(p), &draws);
+            let k = screens::within(turns::cutter_draws(p), &draws);
             p = turns::cutter_turn(p, &key, &draws[..k], time);
         }
     }
 }
 
-pub fn play(word: [u8; WORD]) {
+pub fn play_script(word: [u8; DRAWS]) {
     let mut draws = word;
     turns::to_draws(&mut draws);
     let mut input = io::large_buffer();

@@ -1,10 +1,10 @@
--- `console::same` is safe and ends. Assumes nothing.
+-- `screens::same` is safe and ends. Assumes nothing.
 use Prim.Native.Nat.{_-_}
 use native.Mathlib.Omega.{arith}
 use lib.ListN.{length}
 use borrow.Author.Needs.{needs}
-use Rattle.console.proofs.screen.same.Statement.{statement}
-use Rattle.console.proofs.screen.same.Tie as tie
+use Rattle.screens.proofs.same.Statement.{statement}
+use Rattle.screens.proofs.same.Tie as tie
 
 abbrev Inv-loop : tie.InvT-loop
 Inv-loop a b i₀ i = Unit {0}
