@@ -1,8 +1,10 @@
 -- One turn of each game at a console, over the promises of the public calls.
-use mathlib.Core.Bool.{Bool, cond}
+use mathlib.Core.Bool.{Bool, true, cond}
 use mathlib.Core.List.{List, [], _∷_}
-use Prim.Native.Nat.{ℕ, _+_, _*_, _%_}
+use mathlib.Core.Path.{_≡_}
+use Prim.Native.Nat.{ℕ, _+_, _*_, _%_, _≤_}
 use lib.Dec.{eqb}
+use lib.ListN.{length, take}
 use Rattle.laws.specs.Lists.{any}
 use Rattle.refusal.specs.Refusal.{NONE}
 use Rattle.answer.specs.declared.Answer.{Answer}
@@ -13,7 +15,7 @@ use Rattle.mine_rules.specs.Load.{loaded}
 use Rattle.mine_pass.specs.declared.MineTurn.{MineTurn}
 use Rattle.mine_pass.specs.Pass as Mine
 use Rattle.cutter_state.specs.declared.Cutter.{Cutter}
-use Rattle.cutter_rules.specs.Level.{DRAWS, creaturesOf}
+use Rattle.cutter_rules.specs.Level.{DRAWS, creaturesOf, drawsOk}
 use Rattle.cutter_pass.specs.declared.CutterTurn.{CutterTurn}
 use Rattle.cutter_pass.specs.Pass as Cutter
 use Rattle.cutter.specs.declared.calls.CutterAnswer.{CutterAnswer}
@@ -65,6 +67,10 @@ drawsDue p =
     cond (eqb (p .stands) GOING-ON)
     (cond (Cutter.levelDue (p .game)) (DRAWS * creaturesOf (p .game .level + 1)) 0)
     (DRAWS * creaturesOf 1)
+
+-- no call is refused for such draws: those of n creatures are as many as they should be, and each is in range
+abbrev pub DrawsFit : Type 0
+DrawsFit = (n : ℕ) (bytes : List ℕ) → DRAWS * n ≤ length bytes → drawsOk (take (DRAWS * n) (drawsFrom 0 bytes)) n ≡ true
 
 -- ---- Block Cutter
 
