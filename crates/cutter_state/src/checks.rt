@@ -1,11 +1,13 @@
 // Which states are well formed: whole passes over the cells, which are lent and never copied.
+ghost use mathlib.Core.Bool.{_&&_};
 ghost use mathlib.Core.Path.{_≡_};
 ghost use Prim.Native.Nat.{_≤_};
+ghost use lib.Dec.{leb};
 ghost use lib.ListN.{length, take, drop};
 ghost use Rattle.laws.specs.Lists.{all};
 ghost use Rattle.ground.specs.Cells.{CN, MAX-ENEMIES};
 ghost use Rattle.cutter_state.specs.State.{holdsAt};
-ghost use Rattle.cutter_state.specs.WellFormed.{rowsFilled, columnsFilled, cellsOk, footing, directionOk, isUnit, moverOk, blank, playerOk, creaturesOk, numbersOk, refusalOf};
+ghost use Rattle.cutter_state.specs.WellFormed.{rowsFilled, columnsFilled, cellsOk, footing, directionOk, isUnit, moverOk, blank, numbersOk, refusalOf};
 ghost use Rattle.cutter_state.specs.Passes.{largestOf, Counted};
 use crate::Cutter;
 use crate::MAX_LEVEL;
@@ -114,11 +116,12 @@ fn footing_code(trailing: bool) -> u8
     if trailing { CB_TRAIL } else { CB_FILLED }
 }
 
-fn player_ok(c: Cutter) -> bool
-    ensures { λ r. ⌜ r ≡ playerOk c ⌝ }
+fn player_ok(grid: &[u8; CN], trailing: bool, px: usize, py: usize, dx: i8, dy: i8) -> bool
+    requires { ⌜ length (now grid) ≡ CN ⌝ }
+    ensures { λ r. ⌜ r ≡ (holdsAt (now (grid .entry)) (footing trailing) px py && directionOk dx dy) ⌝ }
 {
-    let code = footing_code(c.trailing);
-    holds(&c.grid, code, c.px, c.py) & direction_ok(c.dx, c.dy)
+    let code = footing_code(trailing);
+    holds(grid, code, px, py) & direction_ok(dx, dy)
 }
 
 fn mover_ok(grid: &[u8; CN], e: Mover) -> bool
@@ -167,15 +170,14 @@ fn rest_blank(enemies: [Mover; MAX_ENEMIES], count: usize) -> bool
     true
 }
 
-fn creatures_ok(c: Cutter) -> bool
-    ensures { λ r. ⌜ r ≡ creaturesOk c ⌝ }
+fn creatures_ok(grid: &[u8; CN], enemies: [Mover; MAX_ENEMIES], count: usize) -> bool
+    requires { ⌜ length (now grid) ≡ CN ⌝ }
+    ensures { λ r. ⌜ r ≡ (leb count MAX-ENEMIES && all (moverOk (now (grid .entry))) (take count enemies) && all blank (drop count enemies)) ⌝ }
 {
-    let count = c.count;
     if MAX_ENEMIES < count {
         return false;
     }
-    let enemies = c.enemies;
-    movers_ok(&c.grid, enemies, count) & rest_blank(enemies, count)
+    movers_ok(grid, enemies, count) & rest_blank(enemies, count)
 }
 
 fn numbers_ok(c: Cutter) -> bool
@@ -188,13 +190,16 @@ fn numbers_ok(c: Cutter) -> bool
 pub fn check(c: Cutter) -> Refusal
     ensures { λ r. ⌜ r ≡ refusalOf c ⌝ }
 {
-    if !cells_ok(&c.grid, c.trailing) {
+    // One copy of the cells, lent to each part of the check.
+    let grid = c.grid;
+    let enemies = c.enemies;
+    if !cells_ok(&grid, c.trailing) {
         return CELLS;
     }
-    if !player_ok(c) {
+    if !player_ok(&grid, c.trailing, c.px, c.py, c.dx, c.dy) {
         return PLAYER;
     }
-    if !creatures_ok(c) {
+    if !creatures_ok(&grid, enemies, c.count) {
         return CREATURES;
     }
     if !numbers_ok(c) {

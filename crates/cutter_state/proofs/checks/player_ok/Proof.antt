@@ -2,7 +2,6 @@ use mir.Syntax.{w8}
 use mir.Val.{SFits}
 use mir.Facts.{toZ-ofZ}
 use borrow.Author.Needs.{needs}
-use Rattle.cutter_state.specs.WellFormed.{playerOk}
 use Rattle.cutter_state.proofs.checks.player_ok.Statement.{statement}
 use Rattle.cutter_state.proofs.checks.player_ok.Tie as tie
 
@@ -16,12 +15,11 @@ direction-ok-requires : tie.Need-direction-ok-requires
 direction-ok-requires c κs = search needs
 
 returns : tie.Need-returns
-unfolding playerOk
 returns c =
-    let a = c .before .before .before .before .before .before .before in
-    let fx : SFits w8 (a .args .t1 .dx) = search needs in
-    let fy : SFits w8 (a .args .t1 .dy) = search needs in
-    simp (c .before .before .before .holds .ensures, c .before .before .before .before .before .before .footing-code .ensures, c .direction-ok .ensures, toZ-ofZ fx, toZ-ofZ fy)
+    let a = c .before .before .before in
+    let fx : SFits w8 (a .args .dx) = search needs in
+    let fy : SFits w8 (a .args .dy) = search needs in
+    simp (c .before .holds .ensures, c .before .before .footing-code .ensures, c .direction-ok .ensures, toZ-ofZ fx, toZ-ofZ fy)
 
 pub player-ok-spec : {M : Type 1} → statement M
 player-ok-spec =
