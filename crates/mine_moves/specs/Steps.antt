@@ -2,18 +2,54 @@
 use mathlib.Core.Bool.{true}
 use mathlib.Core.List.{List}
 use mathlib.Core.Path.{_≡_}
-use Prim.Native.Nat.{ℕ}
+use Prim.Native.Nat.{ℕ, _<_, _≤_}
+use lib.ListN.{set}
 use Rattle.mine_state.specs.declared.Mine.{Mine}
 use Rattle.mine_state.specs.declared.Enemy.{Enemy}
-use Rattle.mine_state.specs.Spots.{onMap, Lent, Spotted}
-use Rattle.mine_state.specs.WellFormed.{Sound}
+use Rattle.mine_state.specs.State.{AREA, EMPTY, place, emptyAt}
+use Rattle.mine_state.specs.Spots.{onMap, Lent, Spotted, Stand}
 use Rattle.mine_rules.specs.declared.Step.{Step}
 use Rattle.mine_rules.specs.Ways.{OnGrid}
+use Rattle.mine_moves.specs.declared.moves.Move.{Move}
 
--- what the player meets: a sound state, and a cell of the grid
-pub record Meets (m : Mine) (x y : ℕ) : Type 0 where
-  pub sound : Sound m
+-- the player as it is; its own cell stays empty
+abbrev pub staying : Mine → Move
+staying m = record { px = m .px; py = m .py; coins = m .coins; needed = m .needed; dead = m .dead; won = m .won; at = place (m .px) (m .py); code = EMPTY }
+
+-- the player stands at (x, y) instead
+abbrev pub gone : Move → ℕ → ℕ → Move
+gone s x y = record { px = x; py = y; coins = s .coins; needed = s .needed; dead = s .dead; won = s .won; at = s .at; code = s .code }
+
+-- the state after a move: one cell has its code, the player's is empty
+abbrev pub applied : Mine → Move → Mine
+applied m t = record { grid = set (set (m .grid) (t .at) (t .code)) (place (t .px) (t .py)) EMPTY; falling = m .falling; px = t .px; py = t .py; enemies = m .enemies; count = m .count; coins = t .coins; needed = m .needed; dead = t .dead; won = t .won }
+
+-- the cells of a move are on the grid
+pub record Inside (t : Move) : Type 0 where
+  pub cell : t .at < AREA
+  pub home : OnGrid (t .px) (t .py)
+
+-- what a move asks of the lent grid and places and of what staying is
+pub record Lends (g spots : List ℕ) (s : Move) : Type 0 where
+  pub lent : Lent g spots
+  pub inside : Inside s
+  pub purse : s .coins ≤ AREA
+
+-- and at a cell of the grid
+pub record Meets (g spots : List ℕ) (s : Move) (x y : ℕ) : Type 0 where
+  pub lends : Lends g spots s
   pub there : OnGrid x y
+
+-- a state that has the lent grid, whose creatures stand at the lent places and whose player, on an empty cell, stays by s
+pub record Plays (m : Mine) (g spots : List ℕ) (s : Move) : Type 0 where
+  pub same : m .grid ≡ g
+  pub stand : Stand m spots (s .at)
+  pub empty : emptyAt (m .grid) (m .px) (m .py) ≡ true
+  pub stays : s ≡ staying m
+
+-- whatever else such a state holds: the move r makes of it what the rule makes
+abbrev pub Makes : List ℕ → List ℕ → Move → Move → (Mine → Mine) → Type 0
+Makes g spots s r rule = (m : Mine) → Plays m g spots s → applied m r ≡ rule m
 
 -- what a creature's step asks of the lent grid and places
 pub record Walks (g spots : List ℕ) (e : Enemy) : Type 0 where

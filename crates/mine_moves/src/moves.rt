@@ -1,14 +1,19 @@
 // The player's move.
+//
+// What a move does is told as numbers, over the lent grid and the creatures' places; the state is copied
+// once, and every move changes it by the same stores.
 use crate::ways::next_cell;
 use found::Found;
 use mine_rules::Ahead;
 use mine_rules::LEFT;
 use mine_rules::RIGHT;
+use mine_state::AREA;
 use mine_state::BOULDER;
 use mine_state::COIN;
 use mine_state::DIRT;
 use mine_state::EMPTY;
 use mine_state::EXIT;
+use mine_state::MAX_ENEMIES;
 use mine_state::Mine;
 use mine_state::W;
 use mine_state::WALL;
@@ -17,77 +22,109 @@ use mine_state::enemy_at;
 use mine_state::free;
 use mine_state::spots_of;
 ghost use mathlib.Core.Path.{_≡_};
-ghost use Rattle.mine_state.specs.Change.{entered};
 ghost use Rattle.mine_state.specs.WellFormed.{WellFormed};
-ghost use Rattle.mine_rules.specs.Ways.{OnGrid};
 ghost use Rattle.mine_rules.specs.Move.{pushed, met, moved};
-ghost use Rattle.mine_moves.specs.Steps.{Meets};
+ghost use Rattle.mine_moves.specs.Steps.{Lends, Meets, Makes, Inside, gone};
 
-// The player digs (x, y) out and stands there.
-fn enter(m: Mine, x: usize, y: usize) -> Mine
-    requires { ⌜ OnGrid x y ⌝ }
-    ensures { λ r. ⌜ r ≡ entered m x y ⌝ }
-{
-    let mut next = m;
-    let i = y * W + x;
-    next.grid[i] = EMPTY;
-    next.px = x;
-    next.py = y;
-    next
+// The player's part of a state, and one cell with its code. The player's own cell is empty besides.
+pub struct Move {
+    pub px: usize,
+    pub py: usize,
+    pub coins: u32,
+    pub needed: u32,
+    pub dead: bool,
+    pub won: bool,
+    pub at: usize,
+    pub code: u8,
 }
 
-// Only a horizontal shove, and only into a free cell beyond.
-fn push(m: Mine, dir: u8, x: usize, y: usize) -> Mine
-    requires { ⌜ Meets m x y ⌝ }
-    ensures { λ r. ⌜ r ≡ pushed m dir x y ⌝ }
+// The player stands at (x, y) instead.
+fn go(s: Move, x: usize, y: usize) -> Move
+    ensures { λ r. ⌜ r ≡ gone s x y ⌝ }
+{
+    let mut to = s;
+    to.px = x;
+    to.py = y;
+    to
+}
+
+// Only a horizontal shove, and only into a free cell beyond. `s` is what staying is.
+fn push(
+    grid: &[u8; AREA],
+    spots: &[usize; MAX_ENEMIES],
+    s: Move,
+    dir: u8,
+    x: usize,
+    y: usize,
+) -> Move
+    requires { ⌜ Meets (now grid) (now spots) s x y ⌝ }
+    ensures { λ r. ⌜ Makes (now (grid .entry)) (now (spots .entry)) s r (λ m. pushed m dir x y) × Inside r ⌝ }
 {
     let sideways = (dir == RIGHT) | (dir == LEFT);
     if !sideways {
-        return m;
+        return s;
     }
     let Ahead::Cell(bx, by) = next_cell(dir, x, y) else {
-        return m;
+        return s;
     };
-    let grid = m.grid;
-    let enemies = m.enemies;
-    let beside = spots_of(enemies, m.count);
-    let player = m.py * W + m.px;
-    if !free(&grid, &beside, player, bx, by) {
-        return m;
+    if !free(grid, spots, s.at, bx, by) {
+        return s;
     }
-    let mut next = m;
-    let i = by * W + bx;
-    next.grid[i] = BOULDER;
-    enter(next, x, y)
+    let mut to = go(s, x, y);
+    to.at = by * W + bx;
+    to.code = BOULDER;
+    to
 }
 
 // What the player meets at (x, y): dug, collected, pushed, or left as it is.
-fn meet(m: Mine, dir: u8, x: usize, y: usize) -> Mine
-    requires { ⌜ Meets m x y ⌝ }
-    ensures { λ r. ⌜ r ≡ met m dir x y ⌝ }
+fn meet(
+    grid: &[u8; AREA],
+    spots: &[usize; MAX_ENEMIES],
+    s: Move,
+    dir: u8,
+    x: usize,
+    y: usize,
+) -> Move
+    requires { ⌜ Meets (now grid) (now spots) s x y ⌝ }
+    ensures { λ r. ⌜ Makes (now (grid .entry)) (now (spots .entry)) s r (λ m. met m dir x y) × Inside r ⌝ }
 {
-    let grid = m.grid;
-    let t = at(&grid, x, y);
+    let t = at(grid, x, y);
     match t {
-        WALL => m,
+        WALL => s,
         EXIT => {
-            if m.needed <= m.coins {
-                let mut next = m;
-                next.won = true;
-                return next;
+            if s.needed <= s.coins {
+                let mut to = s;
+                to.won = true;
+                return to;
             }
-            m
+            s
         }
-        DIRT => enter(m, x, y),
-        EMPTY => enter(m, x, y),
+        DIRT => go(s, x, y),
+        EMPTY => go(s, x, y),
         COIN => {
-            let mut next = m;
-            next.coins = m.coins + 1;
-            enter(next, x, y)
+            let mut to = go(s, x, y);
+            to.coins = s.coins + 1;
+            to
         }
-        BOULDER => push(m, dir, x, y),
-        _ => m,
+        BOULDER => push(grid, spots, s, dir, x, y),
+        _ => s,
     }
+}
+
+// Off the grid, nothing; a creature there kills.
+fn decide(grid: &[u8; AREA], spots: &[usize; MAX_ENEMIES], s: Move, dir: u8) -> Move
+    requires { ⌜ Lends (now grid) (now spots) s ⌝ }
+    ensures { λ r. ⌜ Makes (now (grid .entry)) (now (spots .entry)) s r (λ m. moved m dir) × Inside r ⌝ }
+{
+    let Ahead::Cell(x, y) = next_cell(dir, s.px, s.py) else {
+        return s;
+    };
+    if let Found::At(_) = enemy_at(spots, y * W + x) {
+        let mut to = s;
+        to.dead = true;
+        return to;
+    }
+    meet(grid, spots, s, dir, x, y)
 }
 
 // Move the player by one step, digging, collecting, or pushing as the target allows.
@@ -95,15 +132,28 @@ pub fn step_player(m: Mine, dir: u8) -> Mine
     requires { ⌜ WellFormed m ⌝ }
     ensures { λ r. ⌜ r ≡ moved m dir ⌝ }
 {
-    let Ahead::Cell(nx, ny) = next_cell(dir, m.px, m.py) else {
-        return m;
-    };
+    let mut next = m;
     let enemies = m.enemies;
     let spots = spots_of(enemies, m.count);
-    if let Found::At(_) = enemy_at(&spots, ny * W + nx) {
-        let mut next = m;
-        next.dead = true;
-        return next;
-    }
-    meet(m, dir, nx, ny)
+    let s = Move {
+        px: m.px,
+        py: m.py,
+        coins: m.coins,
+        needed: m.needed,
+        dead: m.dead,
+        won: m.won,
+        at: m.py * W + m.px,
+        code: EMPTY,
+    };
+    let to = decide(&next.grid, &spots, s, dir);
+    let cell = to.at;
+    let home = to.py * W + to.px;
+    next.grid[cell] = to.code;
+    next.grid[home] = EMPTY;
+    next.px = to.px;
+    next.py = to.py;
+    next.coins = to.coins;
+    next.dead = to.dead;
+    next.won = to.won;
+    next
 }

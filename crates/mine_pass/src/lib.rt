@@ -48,8 +48,8 @@ pub struct MineTurn {
 
 // The state after the keys, and whether one of them quit.
 pub struct Played {
-    pub quit: bool,
     pub game: Mine,
+    pub quit: bool,
 }
 
 fn press(m: Mine, key: u8) -> Mine

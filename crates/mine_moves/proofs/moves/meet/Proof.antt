@@ -1,7 +1,11 @@
-use mathlib.Core.Path.{sym, _∙_}
+use mathlib.Core.Path.{_≡_, sym, _∙_, ap}
+use native.Mathlib.Omega.{arith}
+use lib.Dec.{leb}
 use borrow.Author.Needs.{needs}
 use borrow.Author.Tests.{le-leb, lt-leb, ne-eqb}
 use Rattle.mine_rules.specs.Move.{met}
+use Rattle.mine_moves.specs.declared.moves.Move.{Move}
+use Rattle.mine_moves.proofs.Applied.{stayed, won-it, went, took, code}
 use Rattle.mine_moves.proofs.moves.meet.Statement.{statement}
 use Rattle.mine_moves.proofs.moves.meet.Tie as tie
 
@@ -10,53 +14,77 @@ at-requires c κs = search needs
 
 returns : tie.Need-returns
 unfolding met
-returns c = let k = c .before .before in simp (sym (k .before .at .ensures) ∙ k .match .keys2, le-leb _ _ (c .if1 .taken))
+returns c =
+    let k = c .before .before in
+    let a = k .before .before in
+    (λ m p. won-it p ∙ simp (code p (a .args .x) (a .args .y) ∙ sym (k .before .at .ensures) ∙ k .match .keys2, ap (λ (t : Move). leb (t .needed) (t .coins)) (sym (p .stays)) ∙ le-leb _ _ (c .if1 .taken)), record { cell = a .pre .lends .inside .cell; home = a .pre .lends .inside .home })
 
-enter-requires : tie.Need-enter-requires
-enter-requires c κs = search needs
+go-requires : tie.Need-go-requires
+go-requires c κs = search needs
 
-enter-requires-2 : tie.Need-enter-requires-2
-enter-requires-2 c κs = search needs
+go-requires-2 : tie.Need-go-requires-2
+go-requires-2 c κs = search needs
 
-add-next : tie.Need-add-next
-add-next c = search needs
+go-requires-3 : tie.Need-go-requires-3
+go-requires-3 c κs = search needs
 
-enter-requires-3 : tie.Need-enter-requires-3
-enter-requires-3 c κs = search needs
+add-to : tie.Need-add-to
+add-to c = omega (arith, c .before .before .before .before .pre .lends .purse)
 
 push-requires : tie.Need-push-requires
 push-requires c κs = search needs
 
 returns-2 : tie.Need-returns-2
 unfolding met
-returns-2 c = simp (sym (c .before .at .ensures) ∙ c .match .keys1)
+returns-2 c =
+    let a = c .before .before in
+    (λ m p. stayed p ∙ simp (code p (a .args .x) (a .args .y) ∙ sym (c .before .at .ensures) ∙ c .match .keys1), a .pre .lends .inside)
 
 returns-3 : tie.Need-returns-3
 unfolding met
-returns-3 c = let k = c .before .before in simp (sym (k .before .at .ensures) ∙ k .match .keys2, lt-leb _ _ (c .if1 .left))
+returns-3 c =
+    let k = c .before .before in
+    let a = k .before .before in
+    (λ m p. stayed p ∙ simp (code p (a .args .x) (a .args .y) ∙ sym (k .before .at .ensures) ∙ k .match .keys2, ap (λ (t : Move). leb (t .needed) (t .coins)) (sym (p .stays)) ∙ lt-leb _ _ (c .if1 .left)), a .pre .lends .inside)
 
 returns-4 : tie.Need-returns-4
 unfolding met
-returns-4 c = let k = c .before in simp (sym (k .before .at .ensures) ∙ k .match .keys3) (c .enter .ensures)
+returns-4 c =
+    let k = c .before in
+    let a = k .before .before in
+    simp (c .go .ensures)
+    (λ m p. went p (a .args .x) (a .args .y) ∙ simp (code p (a .args .x) (a .args .y) ∙ sym (k .before .at .ensures) ∙ k .match .keys3), record { cell = a .pre .lends .inside .cell; home = a .pre .there })
 
 returns-5 : tie.Need-returns-5
 unfolding met
-returns-5 c = let k = c .before in simp (sym (k .before .at .ensures) ∙ k .match .keys4) (c .enter2 .ensures)
+returns-5 c =
+    let k = c .before in
+    let a = k .before .before in
+    simp (c .go2 .ensures)
+    (λ m p. went p (a .args .x) (a .args .y) ∙ simp (code p (a .args .x) (a .args .y) ∙ sym (k .before .at .ensures) ∙ k .match .keys4), record { cell = a .pre .lends .inside .cell; home = a .pre .there })
 
 returns-6 : tie.Need-returns-6
 unfolding met
-returns-6 c = let k = c .before .before in simp (sym (k .before .at .ensures) ∙ k .match .keys5) (c .enter3 .ensures)
+returns-6 c =
+    let g = c .before in
+    let k = g .before in
+    let a = k .before .before in
+    simp (g .go3 .ensures)
+    (λ m p. took p (a .args .x) (a .args .y) ∙ simp (code p (a .args .x) (a .args .y) ∙ sym (k .before .at .ensures) ∙ k .match .keys5), record { cell = a .pre .lends .inside .cell; home = a .pre .there })
 
 returns-7 : tie.Need-returns-7
 unfolding met
-returns-7 c = let k = c .before in simp (sym (k .before .at .ensures) ∙ k .match .keys6) (c .push .ensures)
+returns-7 c =
+    let k = c .before in
+    let a = k .before .before in
+    (λ m p. c .push .ensures .0 m p ∙ simp (code p (a .args .x) (a .args .y) ∙ sym (k .before .at .ensures) ∙ k .match .keys6), c .push .ensures .1)
 
 returns-8 : tie.Need-returns-8
 unfolding met
 returns-8 c =
     let n = c .match .rest in
-    simp
-    (sym (c .before .at .ensures), ne-eqb _ _ (n .0 .0 .0 .0 .0 .1), ne-eqb _ _ (n .0 .0 .0 .0 .1), ne-eqb _ _ (n .0 .0 .0 .1), ne-eqb _ _ (n .0 .0 .1), ne-eqb _ _ (n .0 .1), ne-eqb _ _ (n .1))
+    let a = c .before .before in
+    (λ m p. stayed p ∙ simp (code p (a .args .x) (a .args .y) ∙ sym (c .before .at .ensures), ne-eqb _ _ (n .0 .0 .0 .0 .0 .1), ne-eqb _ _ (n .0 .0 .0 .0 .1), ne-eqb _ _ (n .0 .0 .0 .1), ne-eqb _ _ (n .0 .0 .1), ne-eqb _ _ (n .0 .1), ne-eqb _ _ (n .1)), a .pre .lends .inside)
 
 pub meet-spec : {M : Type 1} → statement M
 meet-spec =
@@ -64,10 +92,10 @@ meet-spec =
     (tie.spec
     at-requires
     returns
-    enter-requires
-    enter-requires-2
-    add-next
-    enter-requires-3
+    go-requires
+    go-requires-2
+    go-requires-3
+    add-to
     push-requires
     returns-2
     returns-3

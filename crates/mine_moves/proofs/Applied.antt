@@ -1,0 +1,65 @@
+-- What a move's numbers make of a state, rule by rule. Assumes nothing.
+use mathlib.Core.Bool.{true}
+use mathlib.Core.List.{List}
+use mathlib.Core.Path.{_≡_, sym, ap, _∙_}
+use Prim.Native.Nat.{ℕ, _<_, _+_}
+use lib.ListN.{set}
+use lib.Seq.{set-getD}
+use Rattle.found.specs.declared.Found.{Found}
+use Rattle.mine_state.specs.declared.Mine.{Mine}
+use Rattle.mine_state.specs.State.{W, H, EMPTY, place, emptyAt, codeIn, firstAt, freeAt}
+use Rattle.mine_state.specs.Spots.{firstSpot, freeSpot}
+use Rattle.mine_state.specs.Change.{withGrid, withPlayer, entered, withCoins, killed, winner}
+use Rattle.mine_state.proofs.Cells.{empty-code}
+use Rattle.mine_state.proofs.Places.{first-spot, free-spot}
+use Rattle.mine_rules.specs.Move.{collected}
+use Rattle.mine_moves.specs.declared.moves.Move.{Move}
+use Rattle.mine_moves.specs.Steps.{staying, gone, applied, Plays}
+
+-- the same with other coins, dead or won
+abbrev pub richer : Move → ℕ → Move
+richer s n = record { px = s .px; py = s .py; coins = n; needed = s .needed; dead = s .dead; won = s .won; at = s .at; code = s .code }
+
+abbrev pub dying : Move → Move
+dying s = record { px = s .px; py = s .py; coins = s .coins; needed = s .needed; dead = true; won = s .won; at = s .at; code = s .code }
+
+abbrev pub winning : Move → Move
+winning s = record { px = s .px; py = s .py; coins = s .coins; needed = s .needed; dead = s .dead; won = true; at = s .at; code = s .code }
+
+-- the player's own cell is empty already
+kept : (m : Mine) → emptyAt (m .grid) (m .px) (m .py) ≡ true → set (m .grid) (place (m .px) (m .py)) EMPTY ≡ m .grid
+kept m e = ap (set (m .grid) (place (m .px) (m .py))) (sym (empty-code (m .grid) (m .px) (m .py) e)) ∙ set-getD (m .grid) (place (m .px) (m .py)) EMPTY
+
+module _ {m : Mine} {g spots : List ℕ} {s : Move} (p : Plays m g spots s) where
+  own : set (m .grid) (place (m .px) (m .py)) EMPTY ≡ m .grid
+  own = kept m (p .empty)
+
+  twice : set (set (m .grid) (place (m .px) (m .py)) EMPTY) (place (m .px) (m .py)) EMPTY ≡ m .grid
+  twice = ap (λ (l : List ℕ). set l (place (m .px) (m .py)) EMPTY) own ∙ own
+
+  -- nothing; dead; won
+  pub stayed : applied m s ≡ m
+  stayed = ap (applied m) (p .stays) ∙ ap (withGrid m) twice
+
+  pub died : applied m (dying s) ≡ killed m
+  died = ap (λ (t : Move). applied m (dying t)) (p .stays) ∙ ap (λ (l : List ℕ). killed (withGrid m l)) twice
+
+  pub won-it : applied m (winning s) ≡ winner m
+  won-it = ap (λ (t : Move). applied m (winning t)) (p .stays) ∙ ap (λ (l : List ℕ). winner (withGrid m l)) twice
+
+  -- dug and entered, with a coin or without
+  pub went : (x y : ℕ) → applied m (gone s x y) ≡ entered m x y
+  went x y = ap (λ (t : Move). applied m (gone t x y)) (p .stays) ∙ ap (λ (l : List ℕ). entered (withGrid m l) x y) own
+
+  pub took : (x y : ℕ) → applied m (richer (gone s x y) (s .coins + 1)) ≡ collected m x y
+  took x y = ap (λ (t : Move). applied m (richer (gone t x y) (t .coins + 1))) (p .stays) ∙ ap (λ (l : List ℕ). collected (withGrid m l) x y) own
+
+  -- who is there, and whether a cell is free, by the lent grid and places
+  pub asked : (x y : ℕ) → x < W → y < H → firstSpot (place x y) spots ≡ firstAt m x y
+  asked x y hx hy = first-spot (p .stand .spotted) x y hx hy
+
+  pub code : (x y : ℕ) → codeIn (m .grid) x y ≡ codeIn g x y
+  code x y = ap (λ (l : List ℕ). codeIn l x y) (p .same)
+
+  pub freed : (x y : ℕ) → freeAt m x y ≡ freeSpot g spots (s .at) x y
+  freed x y = sym (free-spot (p .stand) x y) ∙ ap (λ (l : List ℕ). freeSpot l spots (s .at) x y) (p .same)
