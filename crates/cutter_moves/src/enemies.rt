@@ -136,8 +136,9 @@ pub fn step_enemies(c: Cutter) -> Cutter
     requires { ⌜ WellFormed c ⌝ }
     ensures { λ r. ⌜ r ≡ enemiesStepped c ⌝ }
 {
+    let grid = c.grid;
     let enemies = c.enemies;
-    let t = tick(&c.grid, enemies, c.count);
+    let t = tick(&grid, enemies, c.count);
     let moved = t.enemies;
     let mut out = c;
     out.enemies = moved;

@@ -6,12 +6,11 @@ ghost use Prim.Native.Nat.{_<_};
 ghost use lib.ListN.{length};
 ghost use Rattle.ground.specs.Cells.{CN};
 ghost use Rattle.closing.specs.Steps.{Closable};
-ghost use Rattle.cutter_state.specs.State.{place};
-ghost use Rattle.cutter_state.specs.Change.{withDirection, killed};
+ghost use Rattle.cutter_state.specs.Change.{withDirection};
 ghost use Rattle.cutter_state.specs.WellFormed.{isZero, WellFormed};
-ghost use Rattle.cutter_rules.specs.Ahead.{diagonalOf};
-ghost use Rattle.cutter_rules.specs.Step.{directed, entered, laid, cutClosed, atBorder, trailingStep, walkingStep, stepped, lineErased, respawned};
+ghost use Rattle.cutter_rules.specs.Step.{directed, entered, cutClosed, atBorder, trailingStep, walkingStep, stepped, lineErased, respawned};
 ghost use Rattle.cutter_moves.specs.Moves.{OnGrid, Stepping};
+ghost use Rattle.cutter_moves.specs.Steps.{closedAt, laying, Lends, Makes, Decides, Stepped};
 use crate::ahead::diagonal_of;
 use crate::enemies::enemy_at;
 use border::move_to_border;
@@ -27,6 +26,8 @@ use ground::CB_FILLED;
 use ground::CB_TRAIL;
 use ground::CN;
 use ground::CW;
+use ground::MAX_ENEMIES;
+use ground::Mover;
 use ground::cell;
 use ground::on_border;
 
@@ -57,37 +58,23 @@ fn standing(dx: i8, dy: i8) -> bool
     (dx == 0) & (dy == 0)
 }
 
-// The cell one step away.
-fn target_of(px: usize, py: usize, dx: i8, dy: i8) -> usize
-    requires { ⌜ OnGrid px py ⌝ }
-    ensures { λ r. ⌜ r ≡ diagonalOf dx dy (place px py) ⌝ }
-{
-    diagonal_of(py * CW + px, dx, dy)
-}
-
-fn kill(c: Cutter) -> Cutter
-    ensures { λ r. ⌜ r ≡ killed c ⌝ }
-{
-    let mut out = c;
-    out.dead = true;
-    out
+// The player's part of a state, and one cell with its code, or the cell at which the step closes a cut.
+pub struct Step {
+    pub px: usize,
+    pub py: usize,
+    pub dx: i8,
+    pub dy: i8,
+    pub trailing: bool,
+    pub dead: bool,
+    pub closes: bool,
+    pub at: usize,
+    pub code: u8,
 }
 
 fn enter(c: Cutter, to: usize) -> Cutter
     ensures { λ r. ⌜ r ≡ entered c to ⌝ }
 {
     let mut out = c;
-    out.px = to % CW;
-    out.py = to / CW;
-    out
-}
-
-fn lay_line(c: Cutter, to: usize) -> Cutter
-    requires { ⌜ to < CN ⌝ }
-    ensures { λ r. ⌜ r ≡ laid c to ⌝ }
-{
-    let mut out = c;
-    out.grid[to] = CB_TRAIL;
     out.px = to % CW;
     out.py = to / CW;
     out
@@ -122,60 +109,131 @@ fn to_border(c: Cutter) -> Cutter
     enter(c, w.at)
 }
 
-// While drawing: crossing your own line is fatal, claimed ground closes the cut, black takes the line on.
-fn step_trailing(c: Cutter, to: usize) -> Cutter
+// Claimed ground at the end of a line: entered, the cut closed, and on to the border.
+fn close_at(c: Cutter, to: usize) -> Cutter
     requires { ⌜ Stepping c to ⌝ }
-    ensures { λ r. ⌜ r ≡ trailingStep c to ⌝ }
+    ensures { λ r. ⌜ r ≡ closedAt c to ⌝ }
 {
-    let target = cell(&c.grid, to);
+    let inside = enter(c, to);
+    let cut = close(inside);
+    to_border(cut)
+}
+
+// The player enters the cell at and leaves line there.
+fn lay(s: Step, at: usize) -> Step
+    ensures { λ r. ⌜ r ≡ laying s at ⌝ }
+{
+    let mut to = s;
+    to.px = at % CW;
+    to.py = at / CW;
+    to.at = at;
+    to.code = CB_TRAIL;
+    to
+}
+
+// While drawing: crossing your own line is fatal, claimed ground closes the cut, black takes the line on. `s` is what staying is.
+fn step_trailing(grid: &[u8; CN], s: Step, at: usize) -> Step
+    requires { ⌜ Lends (now grid) s at ⌝ }
+    ensures { λ r. ⌜ Makes (now (grid .entry)) s r (λ c. trailingStep c at) × (r .at < CN) ⌝ }
+{
+    let target = cell(grid, at);
     if target == CB_TRAIL {
-        return kill(c);
+        let mut to = s;
+        to.dead = true;
+        return to;
     }
     if target == CB_FILLED {
-        let inside = enter(c, to);
-        let cut = close(inside);
-        return to_border(cut);
+        let mut to = s;
+        to.at = at;
+        to.closes = true;
+        return to;
     }
-    lay_line(c, to)
+    lay(s, at)
 }
 
 // Claimed ground is walkable only along the black's border: the player stops at the edge of the rest. Black starts a line.
-fn step_walking(c: Cutter, to: usize) -> Cutter
-    requires { ⌜ to < CN ⌝ }
-    ensures { λ r. ⌜ r ≡ walkingStep c to ⌝ }
+fn step_walking(grid: &[u8; CN], s: Step, at: usize) -> Step
+    requires { ⌜ Lends (now grid) s at ⌝ }
+    ensures { λ r. ⌜ Makes (now (grid .entry)) s r (λ c. walkingStep c at) × (r .at < CN) ⌝ }
 {
-    if cell(&c.grid, to) == CB_FILLED {
-        if on_border(&c.grid, to) {
-            return enter(c, to);
+    if cell(grid, at) == CB_FILLED {
+        let mut to = s;
+        if on_border(grid, at) {
+            to.px = at % CW;
+            to.py = at / CW;
+            return to;
         }
-        return turn_to(c, 0, 0);
+        to.dx = 0;
+        to.dy = 0;
+        return to;
     }
-    let mut out = lay_line(c, to);
-    out.trailing = true;
-    out
+    let mut to = lay(s, at);
+    to.trailing = true;
+    to
 }
 
-// One movement step in the current direction. Lays or closes the line as it goes.
+// What the step does, told as numbers over the lent ground.
+fn decide(grid: &[u8; CN], enemies: [Mover; MAX_ENEMIES], count: usize, s: Step) -> Step
+    requires { ⌜ Decides (now grid) count s ⌝ }
+    ensures { λ r. ⌜ Stepped (now (grid .entry)) enemies count s r × (r .at < CN) ⌝ }
+{
+    if standing(s.dx, s.dy) {
+        return s;
+    }
+    let at = diagonal_of(s.at, s.dx, s.dy);
+    if CN <= at {
+        let mut to = s;
+        to.dx = 0;
+        to.dy = 0;
+        return to;
+    }
+    // Walking into a creature is fatal too, not only being caught by one.
+    if let Found::At(_) = enemy_at(enemies, count, at) {
+        let mut to = s;
+        to.dead = true;
+        return to;
+    }
+    if s.trailing {
+        return step_trailing(grid, s, at);
+    }
+    step_walking(grid, s, at)
+}
+
+// One movement step in the current direction. Lays or closes the line as it goes. The state is copied once, and every step but
+// a closing changes it by the same stores.
 pub fn step_player(c: Cutter) -> Cutter
     requires { ⌜ WellFormed c ⌝ }
     ensures { λ r. ⌜ r ≡ stepped c ⌝ }
 {
-    if standing(c.dx, c.dy) {
-        return c;
-    }
-    let to = target_of(c.px, c.py, c.dx, c.dy);
-    if CN <= to {
-        return turn_to(c, 0, 0);
-    }
+    let mut out = c;
     let enemies = c.enemies;
-    // Walking into a creature is fatal too, not only being caught by one.
-    if let Found::At(_) = enemy_at(enemies, c.count, to) {
-        return kill(c);
+    let own = c.py * CW + c.px;
+    let code = out.grid[own];
+    let s = Step {
+        px: c.px,
+        py: c.py,
+        dx: c.dx,
+        dy: c.dy,
+        trailing: c.trailing,
+        dead: c.dead,
+        closes: false,
+        at: own,
+        code: code,
+    };
+    let to = decide(&out.grid, enemies, c.count, s);
+    let at = to.at;
+    if to.closes {
+        out = close_at(c, at);
+        return out;
     }
-    if c.trailing {
-        return step_trailing(c, to);
-    }
-    step_walking(c, to)
+    out.grid[at] = to.code;
+    out.px = to.px;
+    out.py = to.py;
+    out.dx = to.dx;
+    out.dy = to.dy;
+    out.trailing = to.trailing;
+    out.dead = to.dead;
+    out
 }
 
 fn off_line(k: u8) -> u8

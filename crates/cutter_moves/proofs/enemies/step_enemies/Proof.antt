@@ -9,7 +9,7 @@ tick-requires c κs = search needs
 
 returns : tie.Need-returns
 unfolding enemiesStepped tickOf
-returns c = simp (c .before .before .tick .ensures)
+returns c = simp (c .before .before .before .tick .ensures)
 
 pub step-enemies-spec : {M : Type 1} → statement M
 step-enemies-spec = tie.close (tie.spec tick-requires returns)

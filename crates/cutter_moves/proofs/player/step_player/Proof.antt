@@ -1,101 +1,68 @@
-use mathlib.Core.Bool.{false}
-use mathlib.Core.Path.{_≡_, sym, _∙_}
+use mathlib.Core.Path.{_≡_, refl, sym, _∙_}
+use Prim.Native.Nat.{_<_}
+use native.Mathlib.Omega.{arith}
 use borrow.Author.Needs.{needs}
 use mir.Facts.{toZ-ofZ}
 use mir.Syntax.{w8}
 use mir.Val.{SFits}
-use Rattle.cutter_state.specs.WellFormed.{footing}
+use Rattle.ground.specs.Cells.{CW, CH}
+use Rattle.cutter_state.specs.declared.Cutter.{Cutter}
+use Rattle.cutter_state.specs.WellFormed.{footing, WellFormed}
 use Rattle.cutter_state.proofs.Ring.{holds-inside}
-use Rattle.cutter_rules.specs.Step.{noDirection, target}
-use Rattle.cutter_rules.proofs.Step.{step-none, step-off, step-killed, step-trailing, step-walking}
 use Rattle.cutter_moves.proofs.player.step_player.Statement.{statement}
 use Rattle.cutter_moves.proofs.player.step_player.Tie as tie
 
--- there is a direction, and where it leads
-way : (k : tie.After-target-of) → (noDirection (k .before .before .before .before .before .before .before .args .c) ≡ false) × (k .target-of .result ≡ target (k .before .before .before .before .before .before .before .args .c))
-way k =
-    let s = k .before .before .before .before .before .before .before .args .c in
-    let fx : SFits w8 (s .dx) = search needs in
-    let fy : SFits w8 (s .dy) = search needs in (
-      sym (simp (toZ-ofZ fx, toZ-ofZ fy) at (k .before .before .before .before .standing .ensures)) ∙ k .before .before .before .if1 .left,
-      simp (toZ-ofZ fx, toZ-ofZ fy) at (k .target-of .ensures),
-    )
+home : (c : Cutter) → WellFormed c → (c .px < CW) × (c .py < CH)
+home c w = holds-inside (c .grid) (footing (c .trailing)) (c .px) (c .py) (w .player)
 
-standing-requires : tie.Need-standing-requires
-standing-requires c κs = search needs
+-- what the parameter's type tells
+signed : (s : tie.Start) → SFits w8 (s .args .c .dx) × SFits w8 (s .args .c .dy)
+signed s = (search needs, search needs)
+
+mul-own : tie.Need-mul-own
+mul-own c = let s = c .before .before in omega (arith, home (s .args .c) (s .pre))
+
+add-own : tie.Need-add-own
+add-own c = let s = c .before .before .before in omega (arith, home (s .args .c) (s .pre))
+
+element-copy-out-code : tie.Need-element-copy-out-code
+element-copy-out-code c = let s = c .before .before .before in omega (arith, home (s .args .c) (s .pre))
+
+decide-requires : tie.Need-decide-requires
+decide-requires c κs =
+    let s = c .before .before .before .before .before .before .before in
+    record { cells = s .pre .cells; here = omega (arith, home (s .args .c) (s .pre)); few = s .pre .few }
+
+close-at-requires : tie.Need-close-at-requires
+close-at-requires c κs = search needs
 
 returns : tie.Need-returns
 returns c =
-    let s = c .before .before .before .before .args .c in
-    let fx : SFits w8 (s .dx) = search needs in
-    let fy : SFits w8 (s .dy) = search needs in
-    step-none s (sym (simp (toZ-ofZ fx, toZ-ofZ fy) at (c .before .standing .ensures)) ∙ c .if1 .taken)
+    let d = c .before .before in
+    let s = d .before .before .before .before .before .before .before .before in
+    c .close-at .ensures ∙ (simp (c .before .if1 .taken) at (d .decide .ensures .0 (s .args .c) (record { same = refl; stays = simp (toZ-ofZ (signed s .0), toZ-ofZ (signed s .1)) }) refl refl))
 
-target-of-requires : tie.Need-target-of-requires
-target-of-requires c κs =
-    let s = c .before .before .before .before .before .before in
-    let h = holds-inside (s .args .c .grid) (footing (s .args .c .trailing)) (s .args .c .px) (s .args .c .py) (s .pre .player) in
-    record { across = h .0; down = h .1 }
-
-turn-to-requires : tie.Need-turn-to-requires
-turn-to-requires c κs = search needs
+element-write-out : tie.Need-element-write-out
+element-write-out c = search needs
 
 returns-2 : tie.Need-returns-2
 returns-2 c =
-    let k = c .before .before in
-    c .turn-to .ensures ∙ step-off (k .before .before .before .before .before .before .before .args .c) (way k .0) (k .target-of .result) (way k .1) (c .before .if2 .taken)
-
-enemy-at-requires : tie.Need-enemy-at-requires
-enemy-at-requires c κs = search needs
-
-enum-told : tie.Need-enum-told
-enum-told c = search needs
-
-kill-requires : tie.Need-kill-requires
-kill-requires c κs = search needs
-
-returns-3 : tie.Need-returns-3
-returns-3 c =
-    let k = c .before .before .before .before .before .before in
-    c .kill .ensures
-    ∙ step-killed (k .before .before .before .before .before .before .before .args .c) (way k .0) (k .target-of .result) (way k .1) (c .before .before .before .enemy-at .result) _ (c .before .before .before .before .before .if2 .left) (c .before .before .before .enemy-at .ensures) (c .before .enum-told .given .1)
-
-enum-told-2 : tie.Need-enum-told-2
-enum-told-2 c = search needs
-
-step-trailing-requires : tie.Need-step-trailing-requires
-step-trailing-requires c κs = search needs
-
-returns-4 : tie.Need-returns-4
-returns-4 c =
-    let k = c .before .before .before .before .before .before .before in
-    c .step-trailing .ensures
-    ∙ step-trailing (k .before .before .before .before .before .before .before .args .c) (way k .0) (k .target-of .result) (way k .1) (c .before .before .before .before .enemy-at .result) (c .before .before .before .before .before .before .if2 .left) (c .before .before .before .before .enemy-at .ensures) (c .before .before .enum-told2 .given .1) (c .before .if3 .taken)
-
-step-walking-requires : tie.Need-step-walking-requires
-step-walking-requires c κs = search needs
-
-returns-5 : tie.Need-returns-5
-returns-5 c =
-    let k = c .before .before .before .before .before .before .before in
-    c .step-walking .ensures
-    ∙ step-walking (k .before .before .before .before .before .before .before .args .c) (way k .0) (k .target-of .result) (way k .1) (c .before .before .before .before .enemy-at .result) (c .before .before .before .before .before .before .if2 .left) (c .before .before .before .before .enemy-at .ensures) (c .before .before .enum-told2 .given .1) (c .before .if3 .left)
+    let d = c .before .before .before in
+    let s = d .before .before .before .before .before .before .before .before in
+    let fx : SFits w8 (d .decide .result .dx) = search needs in
+    let fy : SFits w8 (d .decide .result .dy) = search needs in
+    simp (toZ-ofZ fx, toZ-ofZ fy)
+    (simp (c .before .before .if1 .left) at (d .decide .ensures .0 (s .args .c) (record { same = refl; stays = simp (toZ-ofZ (signed s .0), toZ-ofZ (signed s .1)) }) refl refl))
 
 pub step-player-spec : {M : Type 1} → statement M
 step-player-spec =
     tie.close
     (tie.spec
-    standing-requires
+    mul-own
+    add-own
+    element-copy-out-code
+    decide-requires
+    close-at-requires
     returns
-    target-of-requires
-    turn-to-requires
-    returns-2
-    enemy-at-requires
-    enum-told
-    kill-requires
-    returns-3
-    enum-told-2
-    step-trailing-requires
-    returns-4
-    step-walking-requires
-    returns-5)
+    element-write-out
+    returns-2)

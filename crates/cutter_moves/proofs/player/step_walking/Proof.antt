@@ -2,6 +2,7 @@ use mathlib.Core.Path.{sym, _∙_}
 use borrow.Author.Needs.{needs}
 use borrow.Author.Tests.{eq-eqb, ne-eqb}
 use Rattle.cutter_rules.specs.Step.{walkingStep}
+use Rattle.cutter_moves.proofs.Applied.{went, turned, began, code, beside}
 use Rattle.cutter_moves.proofs.player.step_walking.Statement.{statement}
 use Rattle.cutter_moves.proofs.player.step_walking.Tie as tie
 
@@ -11,40 +12,32 @@ cell-requires c κs = search needs
 on-border-requires : tie.Need-on-border-requires
 on-border-requires c κs = search needs
 
-enter-requires : tie.Need-enter-requires
-enter-requires c κs = search needs
-
 returns : tie.Need-returns
 unfolding walkingStep
 returns c =
-    let e = sym (c .before .before .before .before .before .before .cell .ensures) ∙ c .before .before .before .before .before .if1 .taken in
-    simp (eq-eqb _ _ e, sym (c .before .before .on-border .ensures) ∙ c .before .if2 .taken) (c .enter .ensures)
-
-turn-to-requires : tie.Need-turn-to-requires
-turn-to-requires c κs = search needs
+    let k = c .before .before .before in
+    let a = k .before in
+    (λ m p. went p (a .args .at) ∙ simp (eq-eqb _ _ (code p (a .args .at) ∙ sym (k .cell .ensures) ∙ c .before .before .if1 .taken), beside p (a .args .at) ∙ sym (c .before .on-border .ensures) ∙ c .if2 .taken), a .pre .here)
 
 returns-2 : tie.Need-returns-2
 unfolding walkingStep
 returns-2 c =
-    let e = sym (c .before .before .before .before .before .before .cell .ensures) ∙ c .before .before .before .before .before .if1 .taken in
-    simp (eq-eqb _ _ e, sym (c .before .before .on-border .ensures) ∙ c .before .if2 .left) (c .turn-to .ensures)
+    let k = c .before .before .before in
+    let a = k .before in
+    (λ m p. turned p ∙ simp (eq-eqb _ _ (code p (a .args .at) ∙ sym (k .cell .ensures) ∙ c .before .before .if1 .taken), beside p (a .args .at) ∙ sym (c .before .on-border .ensures) ∙ c .if2 .left), a .pre .here)
 
-lay-line-requires : tie.Need-lay-line-requires
-lay-line-requires c κs = search needs
+lay-requires : tie.Need-lay-requires
+lay-requires c κs = search needs
 
 returns-3 : tie.Need-returns-3
 unfolding walkingStep
-returns-3 c = simp (ne-eqb _ _ (λ e. c .before .if1 .left (c .before .before .cell .ensures ∙ e)), c .lay-line .ensures)
+returns-3 c =
+    let k = c .before .before in
+    let a = k .before in
+    simp (c .lay .ensures)
+    (λ m p. began p (a .args .at) ∙ simp (ne-eqb _ _ (λ q. c .before .if1 .left (k .cell .ensures ∙ sym (code p (a .args .at)) ∙ q))), a .pre .there)
 
 pub step-walking-spec : {M : Type 1} → statement M
 step-walking-spec =
     tie.close
-    (tie.spec
-    cell-requires
-    on-border-requires
-    enter-requires
-    returns
-    turn-to-requires
-    returns-2
-    lay-line-requires
-    returns-3)
+    (tie.spec cell-requires on-border-requires returns returns-2 lay-requires returns-3)

@@ -1,0 +1,63 @@
+-- What a step's numbers make of a state, rule by rule. Assumes nothing.
+use mathlib.Core.Bool.{Bool, true}
+use mathlib.Core.List.{List}
+use mathlib.Core.Path.{_≡_, ap, _∙_}
+use Prim.Native.Nat.{ℕ, _/_, _%_}
+use lib.IntN.{pos}
+use lib.ListN.{set, getD}
+use lib.Seq.{set-getD}
+use Rattle.ground.specs.Cells.{CW, cellAt, onBorder}
+use Rattle.cutter_state.specs.declared.Cutter.{Cutter}
+use Rattle.cutter_state.specs.Change.{withGrid, withTrailing, killed}
+use Rattle.cutter_rules.specs.Step.{playerCell, entered, laid, stopped}
+use Rattle.cutter_moves.specs.declared.player.Step.{Step}
+use Rattle.cutter_moves.specs.Steps.{staying, laying, closedAt, does, Plays}
+
+-- the same with one thing changed
+abbrev pub dying : Step → Step
+dying s = record { px = s .px; py = s .py; dx = s .dx; dy = s .dy; trailing = s .trailing; dead = true; closes = s .closes; at = s .at; code = s .code }
+
+abbrev pub stopping : Step → Step
+stopping s = record { px = s .px; py = s .py; dx = pos 0; dy = pos 0; trailing = s .trailing; dead = s .dead; closes = s .closes; at = s .at; code = s .code }
+
+abbrev pub going : Step → ℕ → Step
+going s t = record { px = t % CW; py = t / CW; dx = s .dx; dy = s .dy; trailing = s .trailing; dead = s .dead; closes = s .closes; at = s .at; code = s .code }
+
+abbrev pub drawing : Step → Step
+drawing s = record { px = s .px; py = s .py; dx = s .dx; dy = s .dy; trailing = true; dead = s .dead; closes = s .closes; at = s .at; code = s .code }
+
+abbrev pub shutting : Step → ℕ → Step
+shutting s t = record { px = s .px; py = s .py; dx = s .dx; dy = s .dy; trailing = s .trailing; dead = s .dead; closes = true; at = t; code = s .code }
+
+module _ {c : Cutter} {g : List ℕ} {s : Step} (p : Plays c g s) where
+  -- the player's own cell keeps its code
+  own : set (c .grid) (playerCell c) (getD (c .grid) (playerCell c) 0) ≡ c .grid
+  own = set-getD (c .grid) (playerCell c) 0
+
+  pub stayed : does c s ≡ c
+  stayed = ap (does c) (p .stays) ∙ ap (withGrid c) own
+
+  pub died : does c (dying s) ≡ killed c
+  died = ap (λ (t : Step). does c (dying t)) (p .stays) ∙ ap (λ (l : List ℕ). killed (withGrid c l)) own
+
+  pub turned : does c (stopping s) ≡ stopped c
+  turned = ap (λ (t : Step). does c (stopping t)) (p .stays) ∙ ap (λ (l : List ℕ). stopped (withGrid c l)) own
+
+  pub went : (t : ℕ) → does c (going s t) ≡ entered c t
+  went t = ap (λ (q : Step). does c (going q t)) (p .stays) ∙ ap (λ (l : List ℕ). entered (withGrid c l) t) own
+
+  pub drew : (t : ℕ) → does c (laying s t) ≡ laid c t
+  drew t = ap (λ (q : Step). does c (laying q t)) (p .stays)
+
+  pub began : (t : ℕ) → does c (drawing (laying s t)) ≡ withTrailing (laid c t) true
+  began t = ap (λ (q : Step). does c (drawing (laying q t))) (p .stays)
+
+  pub shut : (t : ℕ) → does c (shutting s t) ≡ closedAt c t
+  shut t = ap (λ (q : Step). does c (shutting q t)) (p .stays)
+
+  -- what the lent ground tells of the state's
+  pub code : (t : ℕ) → cellAt (c .grid) t ≡ cellAt g t
+  code t = ap (λ (l : List ℕ). cellAt l t) (p .same)
+
+  pub beside : (t : ℕ) → onBorder (c .grid) t ≡ onBorder g t
+  beside t = ap (λ (l : List ℕ). onBorder l t) (p .same)

@@ -1,0 +1,54 @@
+-- Block Cutter: a step told as numbers, and what they make of a state. No promise cites it.
+use mathlib.Core.Bool.{Bool, true, false, cond}
+use mathlib.Core.List.{List}
+use mathlib.Core.Path.{_≡_}
+use Prim.Native.Nat.{ℕ, _<_, _≤_, _/_, _%_}
+use lib.ListN.{length, getD, set}
+use Rattle.ground.specs.Cells.{CW, CN, MAX-ENEMIES, CB-TRAIL}
+use Rattle.ground.specs.declared.Mover.{Mover}
+use Rattle.cutter_state.specs.declared.Cutter.{Cutter}
+use Rattle.cutter_rules.specs.Step.{playerCell, entered, cutClosed, atBorder, stepped}
+use Rattle.cutter_moves.specs.declared.player.Step.{Step}
+
+-- the player as it is, and its own cell with its code
+abbrev pub staying : Cutter → Step
+staying c = record { px = c .px; py = c .py; dx = c .dx; dy = c .dy; trailing = c .trailing; dead = c .dead; closes = false; at = playerCell c; code = getD (c .grid) (playerCell c) 0 }
+
+-- the player enters the cell t and leaves line there
+abbrev pub laying : Step → ℕ → Step
+laying s t = record { px = t % CW; py = t / CW; dx = s .dx; dy = s .dy; trailing = s .trailing; dead = s .dead; closes = s .closes; at = t; code = CB-TRAIL }
+
+-- the claimed cell t is entered, the cut closed, the player moved to the border
+abbrev pub closedAt : Cutter → ℕ → Cutter
+closedAt c t = atBorder (cutClosed (entered c t))
+
+-- the state after a step that closes nothing
+abbrev pub applied : Cutter → Step → Cutter
+applied c t = record { grid = set (c .grid) (t .at) (t .code); px = t .px; py = t .py; dx = t .dx; dy = t .dy; trailing = t .trailing; enemies = c .enemies; count = c .count; level = c .level; lives = c .lives; dead = t .dead; «won_level» = c .«won_level» }
+
+abbrev pub does : Cutter → Step → Cutter
+does c t = cond (t .closes) (closedAt c (t .at)) (applied c t)
+
+-- the lent ground, what staying is, and a cell to step to
+pub record Lends (g : List ℕ) (s : Step) (t : ℕ) : Type 0 where
+  pub cells : length g ≡ CN
+  pub here : s .at < CN
+  pub there : t < CN
+
+pub record Decides (g : List ℕ) (n : ℕ) (s : Step) : Type 0 where
+  pub cells : length g ≡ CN
+  pub here : s .at < CN
+  pub few : n ≤ MAX-ENEMIES
+
+-- a state that has the lent ground and whose player stays by s
+pub record Plays (c : Cutter) (g : List ℕ) (s : Step) : Type 0 where
+  pub same : c .grid ≡ g
+  pub stays : s ≡ staying c
+
+-- whatever else such a state holds: the step r makes of it what the rule makes
+abbrev pub Makes : List ℕ → Step → Step → (Cutter → Cutter) → Type 0
+Makes g s r rule = (c : Cutter) → Plays c g s → does c r ≡ rule c
+
+-- the same of a whole step, with the creatures told
+abbrev pub Stepped : List ℕ → List Mover → ℕ → Step → Step → Type 0
+Stepped g es n s r = (c : Cutter) → Plays c g s → c .enemies ≡ es → c .count ≡ n → does c r ≡ stepped c
