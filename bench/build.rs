@@ -6,11 +6,11 @@ fn main() {
     println!("cargo::rerun-if-env-changed=MEASURED");
     match env::var("MEASURED") {
         Ok(folder) => {
-            println!("cargo::rerun-if-changed={folder}/libmeasured.a");
-            println!("cargo::rerun-if-changed={folder}/libcalls.a");
             println!("cargo::rustc-link-search=native={folder}");
-            println!("cargo::rustc-link-lib=static=calls");
-            println!("cargo::rustc-link-lib=static=measured");
+            for name in ["calls", "measured", "measured_calls"] {
+                println!("cargo::rerun-if-changed={folder}/lib{name}.a");
+                println!("cargo::rustc-link-lib=static={name}");
+            }
         }
         Err(_) => println!("cargo::error=MEASURED is not set: build with bench/run"),
     }

@@ -1,5 +1,4 @@
 // Block Cutter.
-use cutter::Ground;
 use cutter_state::Cutter;
 use ground::CW;
 use refusal::Refusal;
@@ -14,8 +13,6 @@ ghost use Rattle.cutter_rules.specs.Step.{stepped, respawned};
 ghost use Rattle.cutter_rules.specs.Tick.{enemiesStepped};
 ghost use Rattle.cutter_moves.specs.Moves.{OnGrid};
 ghost use Rattle.cutter_picture.specs.Picture.{Drawable, cutLit};
-ghost use Rattle.cutter_pass.specs.Pass.{passAt};
-ghost use Rattle.cutter.specs.Calls.{reportCall};
 
 // The copies of a state in and out, and nothing else.
 #[no_mangle]
@@ -80,26 +77,4 @@ pub extern "C" fn rule_cutter_picture(c: Cutter, frame: &mut [u8])
     ensures { λ _. ⌜ now (frame .exit) ≡ pack (cutLit c) ⌝ }
 {
     cutter_picture::cutter_render(c, frame);
-}
-
-#[no_mangle]
-pub extern "C" fn call_cutter_pass(
-    c: Cutter,
-    keys: &[u8],
-    draws: &[u8],
-    time: u32,
-    first: u32,
-    second: u32,
-) -> Cutter
-    ensures { λ r. ⌜ r ≡ passAt c (now (keys .entry)) (now (draws .entry)) time first second .passed .game ⌝ }
-{
-    let t = cutter_turn::pass_at(c, keys, draws, time, first, second);
-    t.passed.game
-}
-
-#[no_mangle]
-pub extern "C" fn call_cutter_ground(c: Cutter) -> Ground
-    ensures { λ r. ⌜ r ≡ reportCall c ⌝ }
-{
-    cutter::ground_report(c)
 }

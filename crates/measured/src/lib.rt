@@ -1,3 +1,3 @@
-// What bench/ measures, under plain names: the rules without the check, and the calls that are compared with it.
+// The rules that bench/ measures, under plain names: without the check, and the check by itself.
 mod cuts;
 mod mines;

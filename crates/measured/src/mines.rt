@@ -10,7 +10,6 @@ ghost use Rattle.mine_rules.specs.Move.{moved};
 ghost use Rattle.mine_rules.specs.Tick.{ticked};
 ghost use Rattle.mine_rules.specs.Gravity.{gravityOf};
 ghost use Rattle.mine_picture.specs.Picture.{Drawable, mineLit};
-ghost use Rattle.mine_pass.specs.Pass.{passAt};
 
 // The copies of a state in and out, and nothing else.
 #[no_mangle]
@@ -64,12 +63,4 @@ pub extern "C" fn rule_mine_picture(m: Mine, frame: &mut [u8])
     ensures { λ _. ⌜ now (frame .exit) ≡ pack (mineLit m) ⌝ }
 {
     mine_picture::render(m, frame);
-}
-
-#[no_mangle]
-pub extern "C" fn call_mine_pass(m: Mine, keys: &[u8], time: u32, first: u32, second: u32) -> Mine
-    ensures { λ r. ⌜ r ≡ passAt m (now (keys .entry)) time first second .passed .game ⌝ }
-{
-    let t = mine_pass::pass_at(m, keys, time, first, second);
-    t.passed.game
 }

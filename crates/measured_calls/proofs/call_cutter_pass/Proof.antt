@@ -1,7 +1,7 @@
 use mathlib.Core.Path.{ap}
 use borrow.Author.Needs.{needs}
-use Rattle.measured.proofs.cuts.call_cutter_pass.Statement.{statement}
-use Rattle.measured.proofs.cuts.call_cutter_pass.Tie as tie
+use Rattle.measured_calls.proofs.call_cutter_pass.Statement.{statement}
+use Rattle.measured_calls.proofs.call_cutter_pass.Tie as tie
 
 pass-at-requires : tie.Need-pass-at-requires
 pass-at-requires c κs = search needs
