@@ -1,12 +1,17 @@
 use mathlib.Core.Path.{ap₂}
 use mathlib.Core.Bool.{_&&_}
+use Prim.Native.Nat.{_<_}
+use native.Mathlib.Omega.{arith}
 use borrow.Author.Tests.{le-leb, lt-leb}
 use borrow.Author.Needs.{needs}
+use Rattle.ground.specs.Cells.{MAX-ENEMIES}
 use Rattle.cutter_state.proofs.checks.creatures_ok.Statement.{statement}
 use Rattle.cutter_state.proofs.checks.creatures_ok.Tie as tie
 
 returns : tie.Need-returns
-returns c = simp (lt-leb _ _ (c .if1 .taken))
+returns c =
+    let more : MAX-ENEMIES < c .before .args .count = omega (arith, c .if1 .taken) in
+    simp (lt-leb _ _ more)
 
 movers-ok-requires : tie.Need-movers-ok-requires
 movers-ok-requires c κs = search needs
