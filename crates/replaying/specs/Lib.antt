@@ -1,1 +1,4 @@
-pub mod Frames
+pub mod Shared
+pub mod Mines
+pub mod Cutters
+pub mod Entry

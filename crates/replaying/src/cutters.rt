@@ -18,7 +18,10 @@ use verdict::Part;
 use verdict::compared_with;
 ghost use mathlib.Core.Path.{_≡_};
 ghost use lib.ListN.{length};
-ghost use Rattle.trace.specs.Cutters.{CUTTER};
+ghost use Rattle.trace.specs.Cutters.{CUTTER, cutterOf};
+ghost use Rattle.replaying.specs.Shared.{marksAt, cutterTold};
+ghost use Rattle.replaying.specs.Cutters.{cutterDirected, cutterStepped, cutterTicked, cutterRespawned, cutterLevelled, cutterPassed, cutterPictured, cutterReported, cutterStarted};
+ghost use Rattle.replaying.specs.Entry.{onCutter};
 
 // Numbers of the calls.
 const DIRECTION: u8 = 18;
@@ -53,7 +56,9 @@ pub fn cutter_told(
     current: &[u8],
     state: &[u8],
     result: &[u8],
-) -> Part {
+) -> Part
+    ensures { λ r. ⌜ r ≡ cutterTold h (now (current .entry)) (now (state .entry)) (now (result .entry)) refusal answer c p ⌝ }
+{
     let mut ours = [0u8; CUTTER];
     put_cutter(c, p.first, p.second, &mut ours);
     compared_with(h, refusal, answer, &ours, current, state, b"", result)
@@ -66,7 +71,9 @@ fn cutter_answered(
     current: &[u8],
     state: &[u8],
     result: &[u8],
-) -> Part {
+) -> Part
+    ensures { λ r. ⌜ r ≡ cutterTold h (now (current .entry)) (now (state .entry)) (now (result .entry)) (a .refusal) 0 (a .game) p ⌝ }
+{
     let c = a.game;
     cutter_told(h, a.refusal, NONE, c, p, current, state, result)
 }
@@ -79,7 +86,9 @@ fn directed(
     current: &[u8],
     state: &[u8],
     result: &[u8],
-) -> Part {
+) -> Part
+    ensures { λ r. ⌜ r ≡ cutterDirected h (now (args .entry)) (now (current .entry)) (now (state .entry)) (now (result .entry)) c p ⌝ }
+{
     if args.len() != 1 {
         return Part::Unread;
     }
@@ -95,7 +104,9 @@ fn stepped(
     current: &[u8],
     state: &[u8],
     result: &[u8],
-) -> Part {
+) -> Part
+    ensures { λ r. ⌜ r ≡ cutterStepped h (now (args .entry)) (now (current .entry)) (now (state .entry)) (now (result .entry)) c p ⌝ }
+{
     if args.len() != 0 {
         return Part::Unread;
     }
@@ -111,7 +122,9 @@ fn ticked(
     current: &[u8],
     state: &[u8],
     result: &[u8],
-) -> Part {
+) -> Part
+    ensures { λ r. ⌜ r ≡ cutterTicked h (now (args .entry)) (now (current .entry)) (now (state .entry)) (now (result .entry)) c p ⌝ }
+{
     if args.len() != 0 {
         return Part::Unread;
     }
@@ -127,7 +140,9 @@ fn respawned(
     current: &[u8],
     state: &[u8],
     result: &[u8],
-) -> Part {
+) -> Part
+    ensures { λ r. ⌜ r ≡ cutterRespawned h (now (args .entry)) (now (current .entry)) (now (state .entry)) (now (result .entry)) c p ⌝ }
+{
     if args.len() != 0 {
         return Part::Unread;
     }
@@ -143,7 +158,9 @@ fn levelled(
     current: &[u8],
     state: &[u8],
     result: &[u8],
-) -> Part {
+) -> Part
+    ensures { λ r. ⌜ r ≡ cutterLevelled h (now (draws .entry)) (now (current .entry)) (now (state .entry)) (now (result .entry)) c p ⌝ }
+{
     let a = cutter::new_level(c, draws);
     cutter_answered(h, a, p, current, state, result)
 }
@@ -156,7 +173,9 @@ fn passed(
     current: &[u8],
     state: &[u8],
     result: &[u8],
-) -> Part {
+) -> Part
+    ensures { λ r. ⌜ r ≡ cutterPassed h (now (args .entry)) (now (current .entry)) (now (state .entry)) (now (result .entry)) c p ⌝ }
+{
     if args.len() < BEFORE_KEYS {
         return Part::Unread;
     }
@@ -193,7 +212,9 @@ fn passed(
     )
 }
 
-fn pictured(h: Head, c: Cutter, args: &[u8], current: &[u8], state: &[u8], result: &[u8]) -> Part {
+fn pictured(h: Head, c: Cutter, args: &[u8], current: &[u8], state: &[u8], result: &[u8]) -> Part
+    ensures { λ r. ⌜ r ≡ cutterPictured h (now (args .entry)) (now (current .entry)) (now (state .entry)) (now (result .entry)) c ⌝ }
+{
     if args.len() != 2 {
         return Part::Unread;
     }
@@ -203,7 +224,9 @@ fn pictured(h: Head, c: Cutter, args: &[u8], current: &[u8], state: &[u8], resul
     compared_with(h, no, NONE, current, current, state, &frame[..n], result)
 }
 
-fn reported(h: Head, c: Cutter, args: &[u8], current: &[u8], state: &[u8], result: &[u8]) -> Part {
+fn reported(h: Head, c: Cutter, args: &[u8], current: &[u8], state: &[u8], result: &[u8]) -> Part
+    ensures { λ r. ⌜ r ≡ cutterReported h (now (args .entry)) (now (current .entry)) (now (state .entry)) (now (result .entry)) c ⌝ }
+{
     if args.len() != 0 {
         return Part::Unread;
     }
@@ -214,7 +237,9 @@ fn reported(h: Head, c: Cutter, args: &[u8], current: &[u8], state: &[u8], resul
     compared_with(h, g.refusal, NONE, current, current, state, &told, result)
 }
 
-fn started(h: Head, c: Cutter, args: &[u8], current: &[u8], state: &[u8], result: &[u8]) -> Part {
+fn started(h: Head, c: Cutter, args: &[u8], current: &[u8], state: &[u8], result: &[u8]) -> Part
+    ensures { λ r. ⌜ r ≡ cutterStarted h (now (args .entry)) (now (current .entry)) (now (state .entry)) (now (result .entry)) c ⌝ }
+{
     if args.len() != MARK {
         return Part::Unread;
     }
@@ -224,6 +249,7 @@ fn started(h: Head, c: Cutter, args: &[u8], current: &[u8], state: &[u8], result
 
 pub fn on_cutter(h: Head, args: &[u8], current: &[u8], state: &[u8], result: &[u8]) -> Part
     requires { ⌜ length (now current) ≡ CUTTER ⌝ }
+    ensures { λ r. ⌜ r ≡ onCutter h (now (args .entry)) (now (current .entry)) (now (state .entry)) (now (result .entry)) (cutterOf (now (current .entry))) (marksAt (now (current .entry))) ⌝ }
 {
     let c = cutter_of(current);
     let p = marks_of(current);

@@ -13,7 +13,10 @@ use verdict::Part;
 use verdict::compared_with;
 ghost use mathlib.Core.Path.{_≡_};
 ghost use lib.ListN.{length};
-ghost use Rattle.replaying.specs.Frames.{MOST};
+ghost use Prim.Native.Nat.{_≤_};
+ghost use Rattle.verdict.specs.Compare.{RECORD};
+ghost use Rattle.replaying.specs.Shared.{MOST, staleOf, marksAt};
+ghost use Rattle.replaying.specs.Entry.{mineLoaded, roundBegun, pageTold, onEither};
 
 // Numbers of the calls.
 const LOAD: u8 = 1;
@@ -36,27 +39,26 @@ pub const MOST: usize = 65536;
 
 // A frame before its picture.
 pub fn stale() -> [u8; MOST]
-    ensures { λ r. ⌜ length r ≡ MOST ⌝ }
+    ensures { λ r. ⌜ r ≡ staleOf MOST ⌝ }
 {
     [STALE; MOST]
 }
 
 // The record at the end of a state.
-pub fn marks_of(current: &[u8]) -> Pace {
+pub fn marks_of(current: &[u8]) -> Pace
+    requires { ⌜ RECORD ≤ length (now current) ⌝ }
+    ensures { λ r. ⌜ r ≡ marksAt (now (current .entry)) ⌝ }
+{
     let n = current.len();
-    if n < verdict::RECORD {
-        return Pace {
-            first: 0,
-            second: 0,
-        };
-    }
     Pace {
         first: word(current, n - verdict::RECORD, MARK) as u32,
         second: word(current, n - MARK, MARK) as u32,
     }
 }
 
-fn load(h: Head, p: Pace, args: &[u8], current: &[u8], state: &[u8], result: &[u8]) -> Part {
+fn load(h: Head, p: Pace, args: &[u8], current: &[u8], state: &[u8], result: &[u8]) -> Part
+    ensures { λ r. ⌜ r ≡ mineLoaded h (now (args .entry)) (now (current .entry)) (now (state .entry)) (now (result .entry)) p ⌝ }
+{
     if args.len() != 0 {
         return Part::Unread;
     }
@@ -64,7 +66,9 @@ fn load(h: Head, p: Pace, args: &[u8], current: &[u8], state: &[u8], result: &[u
 }
 
 // A refused new round leaves the current state.
-fn new_round(h: Head, p: Pace, draws: &[u8], current: &[u8], state: &[u8], result: &[u8]) -> Part {
+fn new_round(h: Head, p: Pace, draws: &[u8], current: &[u8], state: &[u8], result: &[u8]) -> Part
+    ensures { λ r. ⌜ r ≡ roundBegun h (now (draws .entry)) (now (current .entry)) (now (state .entry)) (now (result .entry)) p ⌝ }
+{
     let a = cutter::new_round(draws);
     if a.refusal != refusal::NONE {
         return compared_with(h, a.refusal, NONE, current, current, state, b"", result);
@@ -72,7 +76,9 @@ fn new_round(h: Head, p: Pace, draws: &[u8], current: &[u8], state: &[u8], resul
     cutter_told(h, NONE, NONE, a.game, p, current, state, result)
 }
 
-fn page(h: Head, args: &[u8], current: &[u8], state: &[u8], result: &[u8]) -> Part {
+fn page(h: Head, args: &[u8], current: &[u8], state: &[u8], result: &[u8]) -> Part
+    ensures { λ r. ⌜ r ≡ pageTold h (now (args .entry)) (now (current .entry)) (now (state .entry)) (now (result .entry)) ⌝ }
+{
     if args.len() < PLACE {
         return Part::Unread;
     }
@@ -81,14 +87,9 @@ fn page(h: Head, args: &[u8], current: &[u8], state: &[u8], result: &[u8]) -> Pa
     compared_with(h, NONE, NONE, current, current, state, told, result)
 }
 
-pub fn on_either(
-    h: Head,
-    p: Pace,
-    args: &[u8],
-    current: &[u8],
-    state: &[u8],
-    result: &[u8],
-) -> Part {
+pub fn on_either(h: Head, p: Pace, args: &[u8], current: &[u8], state: &[u8], result: &[u8]) -> Part
+    ensures { λ r. ⌜ r ≡ onEither h (now (args .entry)) (now (current .entry)) (now (state .entry)) (now (result .entry)) p ⌝ }
+{
     let call = h.call;
     match call {
         LOAD => load(h, p, args, current, state, result),

@@ -17,7 +17,10 @@ use verdict::Part;
 use verdict::compared_with;
 ghost use mathlib.Core.Path.{_≡_};
 ghost use lib.ListN.{length};
-ghost use Rattle.trace.specs.Mines.{MINE};
+ghost use Rattle.trace.specs.Mines.{MINE, mineOf};
+ghost use Rattle.replaying.specs.Shared.{marksAt, mineTold};
+ghost use Rattle.replaying.specs.Mines.{mineMoved, mineFallen, mineTicked, minePassed, minePictured, mineStarted};
+ghost use Rattle.replaying.specs.Entry.{onMine};
 
 // Numbers of the calls.
 const MOVE: u8 = 2;
@@ -40,7 +43,9 @@ pub fn mine_told(
     current: &[u8],
     state: &[u8],
     result: &[u8],
-) -> Part {
+) -> Part
+    ensures { λ r. ⌜ r ≡ mineTold h (now (current .entry)) (now (state .entry)) (now (result .entry)) refusal answer m p ⌝ }
+{
     let mut ours = [0u8; MINE];
     put_mine(m, p.first, p.second, &mut ours);
     compared_with(h, refusal, answer, &ours, current, state, b"", result)
@@ -53,7 +58,9 @@ fn mine_answered(
     current: &[u8],
     state: &[u8],
     result: &[u8],
-) -> Part {
+) -> Part
+    ensures { λ r. ⌜ r ≡ mineTold h (now (current .entry)) (now (state .entry)) (now (result .entry)) (a .refusal) 0 (a .game) p ⌝ }
+{
     let m = a.game;
     mine_told(h, a.refusal, NONE, m, p, current, state, result)
 }
@@ -66,7 +73,9 @@ fn moved(
     current: &[u8],
     state: &[u8],
     result: &[u8],
-) -> Part {
+) -> Part
+    ensures { λ r. ⌜ r ≡ mineMoved h (now (args .entry)) (now (current .entry)) (now (state .entry)) (now (result .entry)) m p ⌝ }
+{
     if args.len() != 1 {
         return Part::Unread;
     }
@@ -82,7 +91,9 @@ fn fallen(
     current: &[u8],
     state: &[u8],
     result: &[u8],
-) -> Part {
+) -> Part
+    ensures { λ r. ⌜ r ≡ mineFallen h (now (args .entry)) (now (current .entry)) (now (state .entry)) (now (result .entry)) m p ⌝ }
+{
     if args.len() != 0 {
         return Part::Unread;
     }
@@ -98,7 +109,9 @@ fn ticked(
     current: &[u8],
     state: &[u8],
     result: &[u8],
-) -> Part {
+) -> Part
+    ensures { λ r. ⌜ r ≡ mineTicked h (now (args .entry)) (now (current .entry)) (now (state .entry)) (now (result .entry)) m p ⌝ }
+{
     if args.len() != 0 {
         return Part::Unread;
     }
@@ -114,7 +127,9 @@ fn passed(
     current: &[u8],
     state: &[u8],
     result: &[u8],
-) -> Part {
+) -> Part
+    ensures { λ r. ⌜ r ≡ minePassed h (now (args .entry)) (now (current .entry)) (now (state .entry)) (now (result .entry)) m p ⌝ }
+{
     if args.len() < MARK {
         return Part::Unread;
     }
@@ -139,7 +154,9 @@ fn passed(
     )
 }
 
-fn pictured(h: Head, m: Mine, args: &[u8], current: &[u8], state: &[u8], result: &[u8]) -> Part {
+fn pictured(h: Head, m: Mine, args: &[u8], current: &[u8], state: &[u8], result: &[u8]) -> Part
+    ensures { λ r. ⌜ r ≡ minePictured h (now (args .entry)) (now (current .entry)) (now (state .entry)) (now (result .entry)) m ⌝ }
+{
     if args.len() != 2 {
         return Part::Unread;
     }
@@ -149,7 +166,9 @@ fn pictured(h: Head, m: Mine, args: &[u8], current: &[u8], state: &[u8], result:
     compared_with(h, no, NONE, current, current, state, &frame[..n], result)
 }
 
-fn started(h: Head, m: Mine, args: &[u8], current: &[u8], state: &[u8], result: &[u8]) -> Part {
+fn started(h: Head, m: Mine, args: &[u8], current: &[u8], state: &[u8], result: &[u8]) -> Part
+    ensures { λ r. ⌜ r ≡ mineStarted h (now (args .entry)) (now (current .entry)) (now (state .entry)) (now (result .entry)) m ⌝ }
+{
     if args.len() != MARK {
         return Part::Unread;
     }
@@ -159,6 +178,7 @@ fn started(h: Head, m: Mine, args: &[u8], current: &[u8], state: &[u8], result: 
 
 pub fn on_mine(h: Head, args: &[u8], current: &[u8], state: &[u8], result: &[u8]) -> Part
     requires { ⌜ length (now current) ≡ MINE ⌝ }
+    ensures { λ r. ⌜ r ≡ onMine h (now (args .entry)) (now (current .entry)) (now (state .entry)) (now (result .entry)) (mineOf (now (current .entry))) (marksAt (now (current .entry))) ⌝ }
 {
     let m = mine_of(current);
     let p = marks_of(current);
