@@ -1,5 +1,5 @@
 -- What a step's numbers make of a state, rule by rule. Assumes nothing.
-use mathlib.Core.Bool.{Bool, true}
+use mathlib.Core.Bool.{true}
 use mathlib.Core.List.{List}
 use mathlib.Core.Path.{_≡_, ap, _∙_}
 use Prim.Native.Nat.{ℕ, _/_, _%_}
@@ -11,7 +11,7 @@ use Rattle.cutter_state.specs.declared.Cutter.{Cutter}
 use Rattle.cutter_state.specs.Change.{withGrid, withTrailing, killed}
 use Rattle.cutter_rules.specs.Step.{playerCell, entered, laid, stopped}
 use Rattle.cutter_moves.specs.declared.player.Step.{Step}
-use Rattle.cutter_moves.specs.Steps.{staying, laying, closedAt, does, Plays}
+use Rattle.cutter_moves.specs.Steps.{laying, closedAt, does, Plays}
 
 -- the same with one thing changed
 abbrev pub dying : Step → Step

@@ -1,5 +1,5 @@
 -- Block Cutter: a step told as numbers, and what they make of a state. No promise cites it.
-use mathlib.Core.Bool.{Bool, true, false, cond}
+use mathlib.Core.Bool.{false, cond}
 use mathlib.Core.List.{List}
 use mathlib.Core.Path.{_≡_}
 use Prim.Native.Nat.{ℕ, _<_, _≤_, _/_, _%_}

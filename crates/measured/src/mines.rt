@@ -2,7 +2,6 @@
 use mine_state::Mine;
 use refusal::Refusal;
 ghost use mathlib.Core.Path.{_≡_};
-ghost use lib.ListN.{length};
 ghost use Rattle.frame.specs.Frame.{pack};
 ghost use Rattle.mine_state.specs.WellFormed.{WellFormed, Sound, refusalOf};
 ghost use Rattle.mine_rules.specs.Load.{loaded};

@@ -5,18 +5,17 @@ use mathlib.Core.Path.{_≡_, sym, ap, _∙_}
 use Prim.Native.Nat.{ℕ, _<_, _+_}
 use lib.ListN.{set}
 use lib.Seq.{set-getD}
-use Rattle.found.specs.declared.Found.{Found}
 use Rattle.mine_state.specs.declared.Mine.{Mine}
-use Rattle.mine_state.specs.State.{W, H, EMPTY, place, emptyAt, codeIn, firstAt, freeAt}
+use Rattle.mine_state.specs.State.{W, H, EMPTY, BOULDER, place, emptyAt, codeIn, firstAt, freeAt}
 use Rattle.mine_state.specs.Spots.{firstSpot, freeSpot}
-use Rattle.mine_state.specs.Change.{withGrid, withPlayer, entered, withCoins, killed, winner}
+use Rattle.mine_state.specs.Change.{withGrid, withCell, entered, killed, winner}
 use Rattle.mine_state.proofs.Cells.{empty-code}
 use Rattle.mine_state.proofs.Places.{first-spot, free-spot}
 use Rattle.mine_rules.specs.Move.{collected}
 use Rattle.mine_moves.specs.declared.moves.Move.{Move}
-use Rattle.mine_moves.specs.Steps.{staying, gone, applied, Plays}
+use Rattle.mine_moves.specs.Steps.{gone, applied, Plays}
 
--- the same with other coins, dead or won
+-- the same with other coins, dead, won, or a boulder at a cell
 abbrev pub richer : Move → ℕ → Move
 richer s n = record { px = s .px; py = s .py; coins = n; needed = s .needed; dead = s .dead; won = s .won; at = s .at; code = s .code }
 
@@ -25,6 +24,9 @@ dying s = record { px = s .px; py = s .py; coins = s .coins; needed = s .needed;
 
 abbrev pub winning : Move → Move
 winning s = record { px = s .px; py = s .py; coins = s .coins; needed = s .needed; dead = s .dead; won = true; at = s .at; code = s .code }
+
+abbrev pub pushing : Move → ℕ → ℕ → Move
+pushing s bx by = record { px = s .px; py = s .py; coins = s .coins; needed = s .needed; dead = s .dead; won = s .won; at = place bx by; code = BOULDER }
 
 -- the player's own cell is empty already
 kept : (m : Mine) → emptyAt (m .grid) (m .px) (m .py) ≡ true → set (m .grid) (place (m .px) (m .py)) EMPTY ≡ m .grid
@@ -53,6 +55,10 @@ module _ {m : Mine} {g spots : List ℕ} {s : Move} (p : Plays m g spots s) wher
 
   pub took : (x y : ℕ) → applied m (richer (gone s x y) (s .coins + 1)) ≡ collected m x y
   took x y = ap (λ (t : Move). applied m (richer (gone t x y) (t .coins + 1))) (p .stays) ∙ ap (λ (l : List ℕ). collected (withGrid m l) x y) own
+
+  -- entered, with a boulder in the cell beyond
+  pub shoved : (x y bx by : ℕ) → applied m (pushing (gone s x y) bx by) ≡ entered (withCell m bx by BOULDER) x y
+  shoved x y bx by = ap (λ (t : Move). applied m (pushing (gone t x y) bx by)) (p .stays)
 
   -- who is there, and whether a cell is free, by the lent grid and places
   pub asked : (x y : ℕ) → x < W → y < H → firstSpot (place x y) spots ≡ firstAt m x y

@@ -1,15 +1,11 @@
-use mathlib.Core.Path.{_≡_, refl, sym, _∙_, ap}
-use Prim.Native.Nat.{_+_, _*_}
+use mathlib.Core.Path.{sym, _∙_}
 use native.Mathlib.Omega.{arith}
 use borrow.Author.Needs.{needs}
 use borrow.Author.Tests.{not-true, not-false}
-use Rattle.mine_state.specs.declared.Mine.{Mine}
 use Rattle.mine_rules.specs.Ways.{OnGrid}
 use Rattle.mine_rules.specs.Move.{sideways, pushed}
 use Rattle.mine_rules.proofs.Next.{next-inside}
-use Rattle.mine_moves.specs.declared.moves.Move.{Move}
-use Rattle.mine_moves.specs.Steps.{applied}
-use Rattle.mine_moves.proofs.Applied.{stayed, freed}
+use Rattle.mine_moves.proofs.Applied.{stayed, shoved, freed}
 use Rattle.mine_moves.proofs.moves.push.Statement.{statement}
 use Rattle.mine_moves.proofs.moves.push.Tie as tie
 use Rattle.mine_moves.proofs.moves.push.Reads as reads
@@ -80,8 +76,10 @@ returns-4 c =
     let n = b .before .before in
     let s = n .before .before in
     let o = behind f in
+    let bx = b .bx .given .0 .0 in
+    let by = b .bx .given .0 .1 .0 in
     simp (c .go .ensures)
-    (λ m p. ap (λ (t : Move). applied m (record { px = s .args .x; py = s .args .y; coins = t .coins; needed = t .needed; dead = t .dead; won = t .won; at = b .bx .given .0 .1 .0 * 24 + b .bx .given .0 .0; code = 3 })) (p .stays) ∙ simp (not-false (sideways (s .args .dir)) (n .before .if1 .left), sym (n .next-cell .ensures) ∙ b .bx .given .1, freed p (b .bx .given .0 .0) (b .bx .given .0 .1 .0) ∙ sym (f .free .ensures) ∙ not-false (f .free .result) (c .before .if2 .left)), record { cell = omega (arith, o .across, o .down); home = s .pre .there })
+    (λ m p. shoved p (s .args .x) (s .args .y) bx by ∙ simp (not-false (sideways (s .args .dir)) (n .before .if1 .left), sym (n .next-cell .ensures) ∙ b .bx .given .1, freed p bx by ∙ sym (f .free .ensures) ∙ not-false (f .free .result) (c .before .if2 .left)), record { cell = omega (arith, o .across, o .down); home = s .pre .there })
 
 pub push-spec : {M : Type 1} → statement M
 push-spec =
