@@ -8,7 +8,7 @@ use Rattle.found.specs.declared.Found.{Found}
 use Rattle.found.specs.declared.Found.the-variants.{At, Nobody}
 use Rattle.mine.specs.Question as Mine
 use Rattle.cutter.specs.Question as Cutter
-use Rattle.trace.specs.Numbers.{PLACE, bytesIn, wordAt}
+use Rattle.words.specs.Numbers.{PLACE, bytesIn, wordAt}
 use Rattle.trace.specs.Mines.{ENEMY}
 use Rattle.trace.specs.Cutters.{MOVER}
 use Rattle.verdict.specs.Compare.{compared}

@@ -2,14 +2,14 @@
 use found::Found;
 use ground::Mover;
 use mine_state::Enemy;
-use trace::PLACE;
 use trace::enemy_of;
 use trace::mover_of;
-use trace::put_word;
-use trace::word;
 use verdict::Head;
 use verdict::Part;
 use verdict::compared_with;
+use words::PLACE;
+use words::put_word;
+use words::word;
 ghost use Prim.Native.Nat.{_*_, _≤_};
 ghost use lib.ListN.{length};
 ghost use Rattle.trace.specs.Mines.{ENEMY};

@@ -1,17 +1,18 @@
 // A trace from standard input to its end, entry by entry.
 use libc::STDIN_FILENO;
-use libc::STDOUT_FILENO;
 use replaying::SET;
 use replaying::judge;
 use std::num::wrapping_add_u64;
-use trace::put_cells;
-use trace::word;
+use telling::say_difference;
+use telling::say_verdict;
 use verdict::Head;
 use verdict::Part;
+use words::put_cells;
+use words::word;
 ghost use Prim.Native.Nat.{_<_};
 ghost use mathlib.Core.Path.{_≡_};
 ghost use lib.ListN.{length};
-ghost use Rattle.trace.specs.Numbers.{InWord};
+ghost use Rattle.words.specs.Numbers.{InWord};
 ghost use Rattle.reading.specs.Buffers.{HEADER, BODY, MOST, Lengths, Buffers};
 
 // A header's bytes.
@@ -124,52 +125,13 @@ fn is_unread(part: Part) -> bool {
     if let Part::Unread = part { true } else { false }
 }
 
-fn say(text: &[u8]) {
-    io::write_all(STDOUT_FILENO, text);
-}
-
-fn say_number(n: u64) {
-    io::print_decimal(STDOUT_FILENO, n);
-}
-
-fn say_at(part: &[u8], byte: usize) {
-    say(part);
-    say(b" differs at byte ");
-    say_number(byte as u64);
-}
-
-fn say_part(part: Part) {
-    match part {
-        Part::Same => say(b"agrees"),
-        Part::Unread => say(b"cannot be read"),
-        Part::Refusal => say(b"refusal differs"),
-        Part::Answer => say(b"answer differs"),
-        Part::State(byte) => say_at(b"state", byte),
-        Part::Record(byte) => say_at(b"record", byte),
-        Part::Result(byte) => say_at(b"result", byte),
-    }
-}
-
-// Tells a difference: the entry's number and offset, the call, and the part.
-fn say_difference(run: Run, call: u8, part: Part) {
-    say(b"entry ");
-    say_number(run.entries);
-    say(b" at ");
-    say_number(run.offset);
-    say(b", call ");
-    say_number(call as u64);
-    say(b": ");
-    say_part(part);
-    say(b"\n");
-}
-
 // The first difference is told, or each of them.
 fn tell(run: Run, each: bool, call: u8, part: Part) {
     if is_same(part) {
         return;
     }
     if each | (run.differ == 0) {
-        say_difference(run, call, part);
+        say_difference(run.entries, run.offset, call, part);
     }
 }
 
@@ -214,13 +176,6 @@ fn turn(run: Run, each: bool, body: &mut [u8], current: &mut [u8]) -> Turned
     }
 }
 
-fn say_verdict(run: Run) {
-    say_number(run.calls);
-    say(b" calls, ");
-    say_number(run.differ);
-    say(b" differ\n");
-}
-
 // Replays standard input. A proved loop has to end, and nothing says that the input does: so it
 // counts its turns down, from a number that no run uses up.
 pub fn replay(each: bool) {
@@ -241,5 +196,5 @@ pub fn replay(each: bool) {
         more = t.more;
         turns -= 1;
     }
-    say_verdict(run);
+    say_verdict(run.calls, run.differ);
 }

@@ -1,4 +1,1 @@
-pub mod Shared
-pub mod Mines
-pub mod Cutters
 pub mod Entry

@@ -6,7 +6,7 @@ use Rattle.laws.specs.Lists.{bit, table}
 use Rattle.ground.specs.Cells.{CN, MAX-ENEMIES}
 use Rattle.ground.specs.declared.Mover.{Mover}
 use Rattle.cutter_state.specs.declared.Cutter.{Cutter}
-use Rattle.trace.specs.Numbers.{byteAt, wordAt, bytesIn, pairIn, signedOf, byteOf, flagAt, cellsAt, flat, PLACE, MARK}
+use Rattle.words.specs.Numbers.{byteAt, wordAt, bytesIn, pairIn, signedOf, byteOf, flagAt, cellsAt, flat, PLACE, MARK}
 
 abbrev pub CUTTER : ℕ
 CUTTER = 2157

@@ -1,4 +1,2 @@
-pub mod Numbers
-pub mod Lays
 pub mod Mines
 pub mod Cutters

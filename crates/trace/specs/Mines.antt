@@ -7,7 +7,7 @@ use Rattle.laws.specs.Lists.{bit, table}
 use Rattle.mine_state.specs.State.{AREA, MAX-ENEMIES}
 use Rattle.mine_state.specs.declared.Enemy.{Enemy}
 use Rattle.mine_state.specs.declared.Mine.{Mine}
-use Rattle.trace.specs.Numbers.{byteAt, wordAt, bytesIn, pairIn, flagAt, cellsAt, flat, PLACE, MARK}
+use Rattle.words.specs.Numbers.{byteAt, wordAt, bytesIn, pairIn, flagAt, cellsAt, flat, PLACE, MARK}
 
 abbrev pub MINE : ℕ
 MINE = 850

@@ -1,23 +1,23 @@
 // Block Cutter's state: 2,157 bytes.
-use crate::numbers::MARK;
-use crate::numbers::PLACE;
-use crate::numbers::byte_of;
-use crate::numbers::fill;
-use crate::numbers::put_cells;
-use crate::numbers::put_pair;
-use crate::numbers::put_word;
-use crate::numbers::signed_of;
-use crate::numbers::word;
 use cutter_state::Cutter;
 use ground::CN;
 use ground::MAX_ENEMIES;
 use ground::Mover;
+use words::MARK;
+use words::PLACE;
+use words::byte_of;
+use words::fill;
+use words::put_cells;
+use words::put_pair;
+use words::put_word;
+use words::signed_of;
+use words::word;
 ghost use Prim.Native.Nat.{_+_, _≤_};
 ghost use mathlib.Core.Path.{_≡_};
 ghost use lib.ListN.{length};
 ghost use Rattle.ground.specs.Cells.{CN};
-ghost use Rattle.trace.specs.Numbers.{flat};
-ghost use Rattle.trace.specs.Lays.{Lays};
+ghost use Rattle.words.specs.Numbers.{flat};
+ghost use Rattle.words.specs.Lays.{Lays};
 ghost use Rattle.trace.specs.Cutters.{CUTTER, MOVER, SLOTS, PLAYER, moverAt, moversAt, cutterOf, moverBytes, playerBytes, cutterBytes};
 
 pub const CUTTER: usize = 2157;

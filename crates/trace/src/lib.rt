@@ -2,7 +2,6 @@
 // type, low byte first, all creature slots included, then the two clock marks.
 mod cutters;
 mod mines;
-mod numbers;
 
 pub use cutters::CUTTER;
 pub use cutters::cutter_of;
@@ -12,10 +11,3 @@ pub use mines::MINE;
 pub use mines::enemy_of;
 pub use mines::mine_of;
 pub use mines::put_mine;
-pub use numbers::MARK;
-pub use numbers::PLACE;
-pub use numbers::fill;
-pub use numbers::put_cells;
-pub use numbers::put_pair;
-pub use numbers::put_word;
-pub use numbers::word;

@@ -1,23 +1,23 @@
 // Block Mine's state: 850 bytes.
-use crate::numbers::MARK;
-use crate::numbers::PLACE;
-use crate::numbers::fill;
-use crate::numbers::put_cells;
-use crate::numbers::put_pair;
-use crate::numbers::put_word;
-use crate::numbers::word;
 use mine_state::AREA;
 use mine_state::Enemy;
 use mine_state::MAX_ENEMIES;
 use mine_state::Mine;
+use words::MARK;
+use words::PLACE;
+use words::fill;
+use words::put_cells;
+use words::put_pair;
+use words::put_word;
+use words::word;
 ghost use Prim.Native.Nat.{_+_, _≤_};
 ghost use mathlib.Core.List.{map};
 ghost use mathlib.Core.Path.{_≡_};
 ghost use lib.ListN.{length};
 ghost use Rattle.laws.specs.Lists.{bit};
 ghost use Rattle.mine_state.specs.State.{AREA};
-ghost use Rattle.trace.specs.Numbers.{flat};
-ghost use Rattle.trace.specs.Lays.{Lays};
+ghost use Rattle.words.specs.Numbers.{flat};
+ghost use Rattle.words.specs.Lays.{Lays};
 ghost use Rattle.trace.specs.Mines.{MINE, ENEMY, SLOTS, enemyAt, enemiesAt, fallingAt, mineOf, enemyBytes, mineBytes};
 
 pub const MINE: usize = 850;

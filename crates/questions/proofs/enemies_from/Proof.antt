@@ -8,7 +8,7 @@ use lib.ListN.{length, take, length-set}
 use Rattle.laws.specs.Lists.{table}
 use Rattle.mine_state.specs.State.{MAX-ENEMIES}
 use Rattle.mine_state.specs.declared.Enemy.{Enemy}
-use Rattle.trace.proofs.Runs.{filled-none, filled-more, filled-whole}
+use Rattle.words.proofs.Runs.{filled-none, filled-more, filled-whole}
 use Rattle.questions.specs.Lists.{enemyOr, enemiesFrom}
 use Rattle.questions.proofs.enemies_from.Statement.{statement}
 use Rattle.questions.proofs.enemies_from.Tie as tie

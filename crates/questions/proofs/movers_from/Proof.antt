@@ -8,7 +8,7 @@ use lib.ListN.{length, take, length-set}
 use Rattle.laws.specs.Lists.{table}
 use Rattle.ground.specs.Cells.{MAX-ENEMIES}
 use Rattle.ground.specs.declared.Mover.{Mover}
-use Rattle.trace.proofs.Runs.{filled-none, filled-more, filled-whole}
+use Rattle.words.proofs.Runs.{filled-none, filled-more, filled-whole}
 use Rattle.questions.specs.Lists.{moverOr, moversFrom}
 use Rattle.questions.proofs.movers_from.Statement.{statement}
 use Rattle.questions.proofs.movers_from.Tie as tie

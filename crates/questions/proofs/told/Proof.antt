@@ -1,7 +1,7 @@
 -- `questions::told` meets its contract. Assumes nothing.
 use borrow.Author.Needs.{needs}
 use mathlib.Core.Path.{refl}
-use Rattle.trace.proofs.Lays.{lays-whole}
+use Rattle.words.proofs.Lays.{lays-whole}
 use Rattle.questions.specs.Asked.{foundTold}
 use Rattle.questions.proofs.told.Statement.{statement}
 use Rattle.questions.proofs.told.Tie as tie

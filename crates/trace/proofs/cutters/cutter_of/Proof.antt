@@ -2,7 +2,7 @@
 use borrow.Author.Needs.{needs}
 use native.Mathlib.Omega.{arith}
 use Rattle.trace.specs.Cutters.{cutterOf}
-use Rattle.trace.proofs.Signs.{kept-below}
+use Rattle.words.proofs.Signs.{kept-below}
 use Rattle.trace.proofs.cutters.cutter_of.Statement.{statement}
 use Rattle.trace.proofs.cutters.cutter_of.Tie as tie
 

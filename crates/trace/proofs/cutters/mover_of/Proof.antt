@@ -1,6 +1,6 @@
 -- `trace::mover_of` meets its contract. Assumes nothing.
 use borrow.Author.Needs.{needs}
-use Rattle.trace.proofs.Signs.{kept-below}
+use Rattle.words.proofs.Signs.{kept-below}
 use Rattle.trace.proofs.cutters.mover_of.Statement.{statement}
 use Rattle.trace.proofs.cutters.mover_of.Tie as tie
 

@@ -6,8 +6,8 @@ use Prim.Native.Nat.{ℕ}
 use mir.Facts.{toZ-ofZ}
 use mir.Syntax.{w8}
 use mir.Val.{SFits}
-use Rattle.trace.specs.Numbers.{pairIn, byteOf}
-use Rattle.trace.proofs.Lays.{lays-both, lays-as}
+use Rattle.words.specs.Numbers.{pairIn, byteOf}
+use Rattle.words.proofs.Lays.{lays-both, lays-as}
 use Rattle.trace.proofs.cutters.put_mover.Statement.{statement}
 use Rattle.trace.proofs.cutters.put_mover.Tie as tie
 

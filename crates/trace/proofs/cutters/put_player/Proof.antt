@@ -7,8 +7,8 @@ use mir.Facts.{toZ-ofZ}
 use mir.Syntax.{w8}
 use mir.Val.{SFits}
 use Rattle.laws.specs.Lists.{bit}
-use Rattle.trace.specs.Numbers.{PLACE, bytesIn, pairIn, byteOf}
-use Rattle.trace.proofs.Lays.{lays-both, lays-as}
+use Rattle.words.specs.Numbers.{PLACE, bytesIn, pairIn, byteOf}
+use Rattle.words.proofs.Lays.{lays-both, lays-as}
 use Rattle.trace.proofs.cutters.put_player.Statement.{statement}
 use Rattle.trace.proofs.cutters.put_player.Tie as tie
 

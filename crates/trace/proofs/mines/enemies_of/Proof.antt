@@ -6,7 +6,7 @@ use mathlib.Core.Path.{_≡_, refl, _∙_}
 use Prim.Native.Nat.{ℕ, _+_, _-_, _*_, _≤_}
 use lib.ListN.{length, take, length-set}
 use Rattle.laws.specs.Lists.{table}
-use Rattle.trace.proofs.Runs.{filled-none, filled-more, filled-whole}
+use Rattle.words.proofs.Runs.{filled-none, filled-more, filled-whole}
 use Rattle.mine_state.specs.State.{MAX-ENEMIES}
 use Rattle.mine_state.specs.declared.Enemy.{Enemy}
 use Rattle.trace.specs.Mines.{ENEMY, enemyAt, enemiesAt}

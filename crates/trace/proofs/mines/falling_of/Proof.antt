@@ -6,9 +6,9 @@ use Prim.Native.Nat.{ℕ, _+_, _-_, _≤_}
 use lib.ListN.{length, take, replicate, length-set}
 use Rattle.laws.specs.Lists.{table}
 use Rattle.mine_state.specs.State.{AREA}
-use Rattle.trace.specs.Numbers.{flagAt}
+use Rattle.words.specs.Numbers.{flagAt}
 use Rattle.trace.specs.Mines.{fallingAt}
-use Rattle.trace.proofs.Runs.{filled-none, filled-more, filled-whole}
+use Rattle.words.proofs.Runs.{filled-none, filled-more, filled-whole}
 use Rattle.trace.proofs.mines.falling_of.Statement.{statement}
 use Rattle.trace.proofs.mines.falling_of.Tie as tie
 

@@ -1,6 +1,6 @@
 -- `trace::put_enemy` meets its contract. Assumes nothing.
 use borrow.Author.Needs.{needs}
-use Rattle.trace.proofs.Lays.{lays-both}
+use Rattle.words.proofs.Lays.{lays-both}
 use Rattle.trace.proofs.mines.put_enemy.Statement.{statement}
 use Rattle.trace.proofs.mines.put_enemy.Tie as tie
 

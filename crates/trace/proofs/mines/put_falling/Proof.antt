@@ -9,9 +9,9 @@ use lib.ListN.{length, take}
 use lib.Seq.{take-all}
 use Rattle.laws.specs.Lists.{bit}
 use Rattle.mine_state.specs.State.{AREA}
-use Rattle.trace.specs.Lays.{Lays}
-use Rattle.trace.proofs.Lays.{lays-none, lays-more, lays-as}
-use Rattle.trace.proofs.Runs.{map-more}
+use Rattle.words.specs.Lays.{Lays}
+use Rattle.words.proofs.Lays.{lays-none, lays-more, lays-as}
+use Rattle.words.proofs.Runs.{map-more}
 use Rattle.trace.proofs.mines.put_falling.Statement.{statement}
 use Rattle.trace.proofs.mines.put_falling.Tie as tie
 

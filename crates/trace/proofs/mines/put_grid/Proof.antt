@@ -3,7 +3,7 @@ use borrow.Author.Needs.{needs}
 use mathlib.Core.Path.{_≡_, refl}
 use lib.ListN.{length}
 use Rattle.mine_state.specs.State.{AREA}
-use Rattle.trace.proofs.Lays.{lays-as}
+use Rattle.words.proofs.Lays.{lays-as}
 use Rattle.trace.proofs.mines.put_grid.Statement.{statement}
 use Rattle.trace.proofs.mines.put_grid.Tie as tie
 

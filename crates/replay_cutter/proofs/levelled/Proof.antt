@@ -1,0 +1,19 @@
+-- `replay_cutter::levelled` meets its contract. Assumes nothing.
+use borrow.Author.Needs.{needs}
+use mathlib.Core.Path.{ap, _∙_}
+use Rattle.replay_cutter.specs.Cutters.{answered, cutterLevelled}
+use Rattle.replay_cutter.proofs.levelled.Statement.{statement}
+use Rattle.replay_cutter.proofs.levelled.Tie as tie
+
+new-level-requires : tie.Need-new-level-requires
+new-level-requires c κs = search needs
+
+cutter-answered-requires : tie.Need-cutter-answered-requires
+cutter-answered-requires c κs = search needs
+
+returns : tie.Need-returns
+unfolding cutterLevelled
+returns c = let a = c .before .before .before .before .before .before .args in c .«cutter-answered» .ensures ∙ ap (answered (a .h) (a .draws .now) (a .current .now) (a .state .now) (a .result .now) (a .p)) (c .before .«new-level» .ensures)
+
+pub levelled-spec : {M : Type 1} → statement M
+levelled-spec = tie.close (tie.spec new-level-requires cutter-answered-requires returns)

@@ -1,0 +1,36 @@
+-- `replay_mine::started` meets its contract. Assumes nothing.
+use borrow.Author.Needs.{needs}
+use mathlib.Core.Path.{ap, _∙_}
+use borrow.Author.Tests.{eq-eqb, ne-eqb}
+use Rattle.pace.specs.Pace as Pace
+use Rattle.replay_shared.specs.Shared.{exactly, mineTold}
+use Rattle.replay_mine.specs.Mines.{mineStarted}
+use Rattle.replay_mine.proofs.started.Statement.{statement}
+use Rattle.replay_mine.proofs.started.Tie as tie
+
+returns : tie.Need-returns
+unfolding mineStarted exactly
+returns c = simp (ne-eqb _ _ (c .if1 .taken))
+
+word-requires : tie.Need-word-requires
+word-requires c κs = search needs
+
+cast-start : tie.Need-cast-start
+cast-start c = search needs
+
+start-requires : tie.Need-start-requires
+start-requires c κs = search needs
+
+mine-told-requires : tie.Need-mine-told-requires
+mine-told-requires c κs = search needs
+
+returns-2 : tie.Need-returns-2
+unfolding mineStarted exactly
+returns-2 c =
+    let a = c .before .before .before .before .before .before .before .before .args in
+    rw (eq-eqb _ _ (c .before .before .before .«if1» .left)) (c .«mine-told» .ensures ∙ ap (mineTold (a .h) (a .current .now) (a .state .now) (a .result .now) 0 0 (a .m)) (c .before .«start» .ensures ∙ ap Pace.started (c .before .before .«word» .ensures .is)))
+
+pub started-spec : {M : Type 1} → statement M
+started-spec =
+    tie.close
+    (tie.spec returns word-requires cast-start start-requires mine-told-requires returns-2)

@@ -1,4 +1,0 @@
-pub mod Words
-pub mod Lays
-pub mod Runs
-pub mod Signs

@@ -1,0 +1,4 @@
+pub mod Bytes
+pub mod Lays
+pub mod Runs
+pub mod Signs
