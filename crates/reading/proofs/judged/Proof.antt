@@ -13,7 +13,9 @@ add-r : tie.Need-add-r
 add-r c = search needs
 
 slice-aggregate-judge : tie.Need-slice-aggregate-judge
-slice-aggregate-judge c = sym (length-take-le _ (c .before .before .before .before .before .before .before .args .body .now) (omega (arith, c .before .before .before .before .before .before .before .pre .0 .arguments, c .before .before .before .before .before .before .before .pre .1)))
+slice-aggregate-judge c =
+    let k1 = c .before .before .before .before .before .before .before in
+    sym (length-take-le _ (k1 .args .body .now) (omega (arith, k1 .pre .0 .arguments, k1 .pre .1)))
 
 sub-judge : tie.Need-sub-judge
 sub-judge c = search needs

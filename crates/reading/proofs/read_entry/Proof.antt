@@ -49,7 +49,11 @@ slice-relend-prefix-read-full : tie.Need-slice-relend-prefix-read-full
 slice-relend-prefix-read-full c = search needs
 
 slice-aggregate-read-full-2 : tie.Need-slice-aggregate-read-full-2
-slice-aggregate-read-full-2 c = sym (length-take-le _ (c .before .before .before .before .before .before .before .before .before .before .before .args .body .now) (omega (arith, c .before .length-at3 .ensures, c .before .before .before .length-at2 .ensures, c .before .before .before .before .before .length-at .ensures, c .before .before .before .before .before .before .before .before .before .before .before .pre)))
+slice-aggregate-read-full-2 c =
+    let k1 = c .before .before .before in
+    let k2 = k1 .before .before in
+    let k3 = k2 .before .before .before .before .before .before in
+    sym (length-take-le _ (k3 .args .body .now) (omega (arith, c .before .length-at3 .ensures, k1 .length-at2 .ensures, k2 .length-at .ensures, k3 .pre)))
 
 read-full-requires-2 : tie.Need-read-full-requires-2
 read-full-requires-2 c κs = search needs

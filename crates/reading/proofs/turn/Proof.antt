@@ -19,7 +19,9 @@ slice-reshare-prefix-judged : tie.Need-slice-reshare-prefix-judged
 slice-reshare-prefix-judged c = search needs
 
 slice-aggregate-judged : tie.Need-slice-aggregate-judged
-slice-aggregate-judged c = sym (length-take-le _ (c .before .before .before .before .before .before .before .before .before .args .current .now) (omega (arith, c .before .before .before .before .before .before .before .before .before .pre .room, c .before .before .before .before .before .before .before .before .before .pre .inside)))
+slice-aggregate-judged c =
+    let k1 = c .before .before .before .before .before .before .before .before .before in
+    sym (length-take-le _ (k1 .args .current .now) (omega (arith, k1 .pre .room, k1 .pre .inside)))
 
 judged-requires : tie.Need-judged-requires
 judged-requires c κs = search needs
@@ -43,7 +45,10 @@ same-length-3 : tie.Need-same-length-3
 same-length-3 c = search needs
 
 returns-2 : tie.Need-returns-2
-returns-2 c = let k = c .before .before .before .before .before .before .keep in let x = c .before .before .before .before .before .before .before .before .before .before .before .before .before .before .before .before .before .before .before .args in rw (c .before .after .ensures) (k .ensures)
+returns-2 c =
+    let k1 = c .before .before .before .before .before .before in
+    let k2 = k1 .before .before .before .before .before .before .before .before .before .before .before .before .before in
+    let k = k1 .keep in let x = k2 .args in rw (c .before .after .ensures) (k .ensures)
 
 pub turn-spec : {M : Type 1} → statement M
 turn-spec =

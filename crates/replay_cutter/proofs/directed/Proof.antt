@@ -23,8 +23,10 @@ cutter-answered-requires c κs = search needs
 returns-2 : tie.Need-returns-2
 unfolding cutterDirected exactly
 returns-2 c =
-    let a = c .before .before .before .before .before .before .before .before .args in
-    rw (eq-eqb _ _ (c .before .before .before .«if1» .left)) (c .«cutter-answered» .ensures ∙ ap (answered (a .h) (a .args .now) (a .current .now) (a .state .now) (a .result .now) (a .p)) (c .before .«direction» .ensures))
+    let k1 = c .before .before .before in
+    let k2 = k1 .before .before .before .before .before in
+    let a = k2 .args in
+    rw (eq-eqb _ _ (k1 .«if1» .left)) (c .«cutter-answered» .ensures ∙ ap (answered (a .h) (a .args .now) (a .current .now) (a .state .now) (a .result .now) (a .p)) (c .before .«direction» .ensures))
 
 pub directed-spec : {M : Type 1} → statement M
 directed-spec =

@@ -13,7 +13,9 @@ cutter-answered-requires c κs = search needs
 
 returns : tie.Need-returns
 unfolding cutterLevelled
-returns c = let a = c .before .before .before .before .before .before .args in c .«cutter-answered» .ensures ∙ ap (answered (a .h) (a .draws .now) (a .current .now) (a .state .now) (a .result .now) (a .p)) (c .before .«new-level» .ensures)
+returns c =
+    let k1 = c .before .before .before .before .before .before in
+    let a = k1 .args in c .«cutter-answered» .ensures ∙ ap (answered (a .h) (a .draws .now) (a .current .now) (a .state .now) (a .result .now) (a .p)) (c .before .«new-level» .ensures)
 
 pub levelled-spec : {M : Type 1} → statement M
 levelled-spec = tie.close (tie.spec new-level-requires cutter-answered-requires returns)

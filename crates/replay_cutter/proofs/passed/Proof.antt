@@ -67,16 +67,22 @@ cutter-told-requires c κs = search needs
 returns-3 : tie.Need-returns-3
 unfolding cutterPassed atLeast
 returns-3 c =
-    let a = c .before .before .before .before .before .before .before .before .before .before .before .before .before .before .before .args in
+    let k1 = c .before .before .before .before in
+    let k2 = k1 .before .before .before in
+    let k3 = k2 .before in
+    let k4 = k3 .before in
+    let k5 = k4 .before in
+    let k6 = k5 .before .before .before .before .before in
+    let a = k6 .args in
     let l = a .args .now in
-    let w = c .before .before .before .before .before .before .before .before .before .«word» in
-    let n = c .before .before .before .before .before .before .before .before .«word2» in
-    let t = c .before .before .before .before .«pass-marks» in
-    let long : BEFORE-KEYS + keyCount (a .h) (a .args .now) (a .current .now) (a .state .now) (a .result .now) ≤ length l = rw (n .ensures .is) at (c .before .before .before .before .before .before .before .«if2» .left) in
+    let w = k4 .«word» in
+    let n = k3 .«word2» in
+    let t = k1 .«pass-marks» in
+    let long : BEFORE-KEYS + keyCount (a .h) (a .args .now) (a .current .now) (a .state .now) (a .result .now) ≤ length l = rw (n .ensures .is) at (k2 .«if2» .left) in
     let count : BEFORE-KEYS + n .result - BEFORE-KEYS ≡ n .result = omega arith in
     let keys : t .result ≡ passAt (a .c) (take (n .result) (drop BEFORE-KEYS l)) (take (length l - (BEFORE-KEYS + n .result)) (drop (BEFORE-KEYS + n .result) l)) (w .result) (a .p .first) (a .p .second) = subst (λ (k : ℕ). t .result ≡ passAt (a .c) (take k (drop BEFORE-KEYS l)) (take (length l - (BEFORE-KEYS + n .result)) (drop (BEFORE-KEYS + n .result) l)) (w .result) (a .p .first) (a .p .second)) count (t .ensures) in
     let draws : t .result ≡ passAt (a .c) (take (n .result) (drop BEFORE-KEYS l)) (drop (BEFORE-KEYS + n .result) l) (w .result) (a .p .first) (a .p .second) = subst (λ (d : List ℕ). t .result ≡ passAt (a .c) (take (n .result) (drop BEFORE-KEYS l)) d (w .result) (a .p .first) (a .p .second)) (rest-is (BEFORE-KEYS + n .result) l) keys in
-    simp (le-ltb _ _ (c .before .before .before .before .before .before .before .before .before .before .«if1» .left), le-ltb _ _ long)
+    simp (le-ltb _ _ (k5 .«if1» .left), le-ltb _ _ long)
     (c .«cutter-told» .ensures
     ∙ ap (λ (k : ℕ). cutterTold (a .h) (a .current .now) (a .state .now) (a .result .now) (t .result .passed .refusal) k (t .result .passed .game) (marksOf (t .result))) (c .before .«number» .ensures)
     ∙ ap (turned (a .h) (a .args .now) (a .current .now) (a .state .now) (a .result .now)) (draws ∙ ap₂ (λ (k m : ℕ). passAt (a .c) (take k (drop BEFORE-KEYS l)) (drop (BEFORE-KEYS + k) l) m (a .p .first) (a .p .second)) (n .ensures .is) (w .ensures .is)))

@@ -50,10 +50,15 @@ compared-with-requires c κs = search needs
 returns-2 : tie.Need-returns-2
 unfolding cutterReported exactly
 returns-2 c =
-    let a = c .before .before .before .before .before .before .before .before .before .before .before .before .before .before .before .before .before .before .args in
-    let g = c .before .before .before .before .before .before .before .before .before .before .before .before .«ground-report» in
-    rw (eq-eqb _ _ (c .before .before .before .before .before .before .before .before .before .before .before .before .before .«if1» .left))
-    (c .«compared-with» .ensures ∙ ap (λ (l : List ℕ). stays (a .h) (a .current .now) (a .state .now) (a .result .now) (g .result .refusal) l) (lays-whole refl (lays-both (c .before .before .before .before .before .before .before .before .«put-pair» .ensures) (c .before .before .before .«put-pair2» .ensures))) ∙ ap (ground (a .h) (a .args .now) (a .current .now) (a .state .now) (a .result .now)) (g .ensures))
+    let k1 = c .before .before .before in
+    let k2 = k1 .before .before .before .before .before in
+    let k3 = k2 .before .before .before .before in
+    let k4 = k3 .before in
+    let k5 = k4 .before .before .before .before .before in
+    let a = k5 .args in
+    let g = k3 .«ground-report» in
+    rw (eq-eqb _ _ (k4 .«if1» .left))
+    (c .«compared-with» .ensures ∙ ap (λ (l : List ℕ). stays (a .h) (a .current .now) (a .state .now) (a .result .now) (g .result .refusal) l) (lays-whole refl (lays-both (k2 .«put-pair» .ensures) (k1 .«put-pair2» .ensures))) ∙ ap (ground (a .h) (a .args .now) (a .current .now) (a .state .now) (a .result .now)) (g .ensures))
 
 pub reported-spec : {M : Type 1} → statement M
 reported-spec =

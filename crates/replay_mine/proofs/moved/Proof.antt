@@ -23,8 +23,10 @@ mine-answered-requires c κs = search needs
 returns-2 : tie.Need-returns-2
 unfolding mineMoved exactly
 returns-2 c =
-    let a = c .before .before .before .before .before .before .before .before .args in
-    rw (eq-eqb _ _ (c .before .before .before .«if1» .left)) (c .«mine-answered» .ensures ∙ ap (answered (a .h) (a .args .now) (a .current .now) (a .state .now) (a .result .now) (a .p)) (c .before .«step-player» .ensures))
+    let k1 = c .before .before .before in
+    let k2 = k1 .before .before .before .before .before in
+    let a = k2 .args in
+    rw (eq-eqb _ _ (k1 .«if1» .left)) (c .«mine-answered» .ensures ∙ ap (answered (a .h) (a .args .now) (a .current .now) (a .state .now) (a .result .now) (a .p)) (c .before .«step-player» .ensures))
 
 pub moved-spec : {M : Type 1} → statement M
 moved-spec =

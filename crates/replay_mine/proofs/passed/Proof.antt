@@ -44,11 +44,15 @@ mine-told-requires c κs = search needs
 returns-2 : tie.Need-returns-2
 unfolding minePassed atLeast
 returns-2 c =
-    let a = c .before .before .before .before .before .before .before .before .before .before .before .before .args in
-    let w = c .before .before .before .before .before .before .«word» in
-    let t = c .before .before .before .before .«pass-marks» in
+    let k1 = c .before .before .before .before in
+    let k2 = k1 .before .before in
+    let k3 = k2 .before in
+    let k4 = k3 .before .before .before .before .before in
+    let a = k4 .args in
+    let w = k2 .«word» in
+    let t = k1 .«pass-marks» in
     let keys : t .result ≡ passAt (a .m) (drop MARK (a .args .now)) (w .result) (a .p .first) (a .p .second) = subst (λ (l : List ℕ). t .result ≡ passAt (a .m) l (w .result) (a .p .first) (a .p .second)) (rest-is MARK (a .args .now)) (t .ensures) in
-    rw (le-ltb _ _ (c .before .before .before .before .before .before .before .«if1» .left))
+    rw (le-ltb _ _ (k3 .«if1» .left))
     (c .«mine-told» .ensures
     ∙ ap (λ (n : ℕ). mineTold (a .h) (a .current .now) (a .state .now) (a .result .now) (t .result .passed .refusal) n (t .result .passed .game) (marksOf (t .result))) (c .before .«number» .ensures)
     ∙ ap (turned (a .h) (a .args .now) (a .current .now) (a .state .now) (a .result .now)) (keys ∙ ap (λ (n : ℕ). passAt (a .m) (drop MARK (a .args .now)) n (a .p .first) (a .p .second)) (w .ensures .is)))

@@ -48,14 +48,19 @@ compared-with-requires c κs = search needs
 returns-2 : tie.Need-returns-2
 unfolding minePictured exactly
 returns-2 c =
-    let a = c .before .before .before .before .before .before .before .before .before .before .before .before .args in
-    let w = c .before .before .before .before .before .before .«word» in
-    let d = c .before .before .before .before .before .«stale» in
-    let v = c .before .before .before .«render» in
+    let k1 = c .before .before .before in
+    let k2 = k1 .before .before in
+    let k3 = k2 .before in
+    let k4 = k3 .before in
+    let k5 = k4 .before .before .before .before .before in
+    let a = k5 .args in
+    let w = k3 .«word» in
+    let d = k2 .«stale» in
+    let v = k1 .«render» in
     let within : w .result ≤ MOST = omega (arith, w .ensures .fits) in
     let whole : length (v .last .1 .0) ≡ w .result = c .before .before .frame2 .given ∙ length-take-le (w .result) (d .result) (omega (arith, within, stale-long (d .result) (d .ensures))) in
     let picture : (v .result, v .last .1 .0) ≡ pictureOf (a .m) _ = v .ensures ∙ ap (pictureOf (a .m)) (stale-part (d .result) (d .ensures) (w .result) within ∙ ap staleOf (w .ensures .is)) in
-    rw (eq-eqb _ _ (c .before .before .before .before .before .before .before .«if1» .left))
+    rw (eq-eqb _ _ (k4 .«if1» .left))
     (c .«compared-with» .ensures ∙ ap (λ (l : List ℕ). stays (a .h) (a .current .now) (a .state .now) (a .result .now) (v .result) l) (take-at (v .last .1 .0) (drop (w .result) (d .result)) (w .result) whole) ∙ ap (drawn (a .h) (a .current .now) (a .state .now) (a .result .now)) picture)
 
 pub pictured-spec : {M : Type 1} → statement M

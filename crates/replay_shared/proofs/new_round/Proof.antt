@@ -18,8 +18,10 @@ compared-with-requires c κs = search needs
 returns : tie.Need-returns
 unfolding roundBegun
 returns c =
-    let a = c .before .before .before .before .before .before .before .before .before .args in
-    let n = c .before .before .before .before .«new-round» in
+    let k1 = c .before .before .before .before in
+    let k2 = k1 .before .before .before .before .before in
+    let a = k2 .args in
+    let n = k1 .«new-round» in
     let e : c .«compared-with» .result ≡ begun (a .h) (a .draws .now) (a .current .now) (a .state .now) (a .result .now) (a .p) (n .result) = rw (ne-eqb _ _ (c .before .before .«if1» .taken)) (c .«compared-with» .ensures) in
     e ∙ ap (begun (a .h) (a .draws .now) (a .current .now) (a .state .now) (a .result .now) (a .p)) (n .ensures)
 

@@ -38,12 +38,15 @@ compared-with-requires c κs = search needs
 returns-2 : tie.Need-returns-2
 unfolding pageTold atLeast
 returns-2 c =
-    let a = c .before .before .before .before .before .before .before .before .before .args in
+    let k1 = c .before .before .before in
+    let k2 = k1 .before in
+    let k3 = k2 .before .before .before .before .before in
+    let a = k3 .args in
     let l = a .args .now in
-    let w = c .before .before .before .«word» in
+    let w = k1 .«word» in
     let g = c .before .«page» in
     let part = subst (λ (x : List ℕ). g .result .now ≡ pageOf x (w .result)) (rest-is PLACE l) (g .ensures) in
-    rw (le-ltb _ _ (c .before .before .before .before .«if1» .left)) (c .«compared-with» .ensures ∙ ap (stays (a .h) (a .current .now) (a .state .now) (a .result .now) 0) (part ∙ ap (pageOf (drop PLACE l)) (w .ensures .is)))
+    rw (le-ltb _ _ (k2 .«if1» .left)) (c .«compared-with» .ensures ∙ ap (stays (a .h) (a .current .now) (a .state .now) (a .result .now) 0) (part ∙ ap (pageOf (drop PLACE l)) (w .ensures .is)))
 
 pub page-spec : {M : Type 1} → statement M
 page-spec =

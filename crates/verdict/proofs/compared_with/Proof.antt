@@ -25,7 +25,11 @@ part-at-requires c κs = search needs
 
 returns-3 : tie.Need-returns-3
 unfolding compared
-returns-3 c = simp (eq-eqb _ _ (c .before .before .before .before .before .before .before .«if1» .left), eq-eqb _ _ (c .before .before .before .before .before .«if2» .left), sym (c .before .before .before .before .«state-differs» .ensures) ∙ c .before .before .«i» .given .1) (c .«part-at» .ensures)
+returns-3 c =
+    let k1 = c .before .before .before .before in
+    let k2 = k1 .before in
+    let k3 = k2 .before .before in
+    simp (eq-eqb _ _ (k3 .«if1» .left), eq-eqb _ _ (k2 .«if2» .left), sym (k1 .«state-differs» .ensures) ∙ c .before .before .«i» .given .1) (c .«part-at» .ensures)
 
 enum-told : tie.Need-enum-told
 enum-told c = search needs
@@ -35,7 +39,11 @@ is-rewritten-requires c κs = search needs
 
 returns-4 : tie.Need-returns-4
 unfolding compared
-returns-4 c = simp (eq-eqb _ _ (c .before .before .before .before .before .before .before .«if1» .left), eq-eqb _ _ (c .before .before .before .before .before .«if2» .left), sym (c .before .before .before .before .«state-differs» .ensures) ∙ c .before .before .«enum-told» .given .1, sym (c .before .«is-rewritten» .ensures) ∙ c .if3 .taken)
+returns-4 c =
+    let k1 = c .before .before .before .before in
+    let k2 = k1 .before in
+    let k3 = k2 .before .before in
+    simp (eq-eqb _ _ (k3 .«if1» .left), eq-eqb _ _ (k2 .«if2» .left), sym (k1 .«state-differs» .ensures) ∙ c .before .before .«enum-told» .given .1, sym (c .before .«is-rewritten» .ensures) ∙ c .if3 .taken)
 
 differs-requires : tie.Need-differs-requires
 differs-requires c κs = search needs
@@ -45,14 +53,29 @@ enum-known-i-2 c = search needs
 
 returns-5 : tie.Need-returns-5
 unfolding compared
-returns-5 c = simp (eq-eqb _ _ (c .before .before .before .before .before .before .before .before .before .before .before .«if1» .left), eq-eqb _ _ (c .before .before .before .before .before .before .before .before .before .«if2» .left), sym (c .before .before .before .before .before .before .before .before .«state-differs» .ensures) ∙ c .before .before .before .before .before .before .«enum-told» .given .1, sym (c .before .before .before .before .before .«is-rewritten» .ensures) ∙ c .before .before .before .before .«if3» .left, sym (c .before .before .before .«differs» .ensures) ∙ c .before .«i2» .given .1)
+returns-5 c =
+    let k1 = c .before .before .before in
+    let k2 = k1 .before in
+    let k3 = k2 .before in
+    let k4 = k3 .before in
+    let k5 = k4 .before .before in
+    let k6 = k5 .before in
+    let k7 = k6 .before .before in
+    simp (eq-eqb _ _ (k7 .«if1» .left), eq-eqb _ _ (k6 .«if2» .left), sym (k5 .«state-differs» .ensures) ∙ k4 .«enum-told» .given .1, sym (k3 .«is-rewritten» .ensures) ∙ k2 .«if3» .left, sym (k1 .«differs» .ensures) ∙ c .before .«i2» .given .1)
 
 enum-told-2 : tie.Need-enum-told-2
 enum-told-2 c = search needs
 
 returns-6 : tie.Need-returns-6
 unfolding compared
-returns-6 c = simp (eq-eqb _ _ (c .before .before .before .before .before .before .before .before .before .before .«if1» .left), eq-eqb _ _ (c .before .before .before .before .before .before .before .before .«if2» .left), sym (c .before .before .before .before .before .before .before .«state-differs» .ensures) ∙ c .before .before .before .before .before .«enum-told» .given .1, sym (c .before .before .before .before .«is-rewritten» .ensures) ∙ c .before .before .before .«if3» .left, sym (c .before .before .«differs» .ensures) ∙ c .«enum-told2» .given .1)
+returns-6 c =
+    let k1 = c .before .before .before in
+    let k2 = k1 .before in
+    let k3 = k2 .before in
+    let k4 = k3 .before .before in
+    let k5 = k4 .before in
+    let k6 = k5 .before .before in
+    simp (eq-eqb _ _ (k6 .«if1» .left), eq-eqb _ _ (k5 .«if2» .left), sym (k4 .«state-differs» .ensures) ∙ k3 .«enum-told» .given .1, sym (k2 .«is-rewritten» .ensures) ∙ k1 .«if3» .left, sym (c .before .before .«differs» .ensures) ∙ c .«enum-told2» .given .1)
 
 pub compared-with-spec : {M : Type 1} → statement M
 compared-with-spec =

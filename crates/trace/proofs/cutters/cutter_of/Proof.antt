@@ -59,7 +59,16 @@ shared-slice-read-t29 c = search needs
 
 returns : tie.Need-returns
 unfolding cutterOf
-returns c = simp (kept-below (c .before .before .before .before .before .before .before .before .before .before .before .«signed-of» .result) (c .before .before .before .before .before .before .before .before .before .before .before .«signed-of» .ok), kept-below (c .before .before .before .before .before .before .before .before .before .«signed-of2» .result) (c .before .before .before .before .before .before .before .before .before .«signed-of2» .ok)) (simp (c .before .before .before .before .before .before .before .before .before .before .before .before .before .before .«fill» .ensures, c .before .before .before .before .before .before .before .before .before .before .before .«signed-of» .ensures, c .before .before .before .before .before .before .before .before .before .«signed-of2» .ensures, c .before .before .before .before .before .before .before .before .«word» .ensures .is, c .before .before .before .before .before .before .before .«word2» .ensures .is, c .before .before .before .before .before .«movers-of» .ensures, c .before .before .before .before .«word3» .ensures .is, c .before .before .before .«word4» .ensures .is, c .before .before .«word5» .ensures .is))
+returns c =
+    let k1 = c .before .before .before in
+    let k2 = k1 .before in
+    let k3 = k2 .before in
+    let k4 = k3 .before .before in
+    let k5 = k4 .before in
+    let k6 = k5 .before in
+    let k7 = k6 .before .before in
+    let k8 = k7 .before .before .before in
+    simp (kept-below (k7 .«signed-of» .result) (k7 .«signed-of» .ok), kept-below (k6 .«signed-of2» .result) (k6 .«signed-of2» .ok)) (simp (k8 .«fill» .ensures, k7 .«signed-of» .ensures, k6 .«signed-of2» .ensures, k5 .«word» .ensures .is, k4 .«word2» .ensures .is, k3 .«movers-of» .ensures, k2 .«word3» .ensures .is, k1 .«word4» .ensures .is, c .before .before .«word5» .ensures .is))
 
 pub cutter-of-spec : {M : Type 1} → statement M
 cutter-of-spec =

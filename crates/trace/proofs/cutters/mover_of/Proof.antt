@@ -32,7 +32,9 @@ shared-slice-read-t11 : tie.Need-shared-slice-read-t11
 shared-slice-read-t11 c = search needs
 
 returns : tie.Need-returns
-returns c = simp (kept-below (c .before .before .before .before .«signed-of» .result) (c .before .before .before .before .«signed-of» .ok), kept-below (c .before .before .«signed-of2» .result) (c .before .before .«signed-of2» .ok)) (simp (c .before .before .before .before .«signed-of» .ensures, c .before .before .«signed-of2» .ensures))
+returns c =
+    let k1 = c .before .before .before .before in
+    simp (kept-below (k1 .«signed-of» .result) (k1 .«signed-of» .ok), kept-below (c .before .before .«signed-of2» .result) (c .before .before .«signed-of2» .ok)) (simp (k1 .«signed-of» .ensures, c .before .before .«signed-of2» .ensures))
 
 pub mover-of-spec : {M : Type 1} → statement M
 mover-of-spec =

@@ -46,7 +46,10 @@ returns c =
     let e = c .before .before .before .before .before .before .before .before .before .before .before .before .before .before .before .args .e in
     let fx : SFits w8 (e .vx) = search needs in
     let fy : SFits w8 (e .vy) = search needs in
-    lays-as (ap₂ (λ (a b : ℕ). pairIn 1 (e .x) (e .y) ++ pairIn 1 a b) (c .before .before .before .before .before .before .before .before .before .before .before .before .«byte-of» .ensures ∙ ap byteOf (toZ-ofZ fx)) (c .before .before .before .before .before .before .before .before .before .before .«byte-of2» .ensures ∙ ap byteOf (toZ-ofZ fy))) refl (lays-both (c .before .before .before .before .before .before .«put-pair» .ensures) (c .before .before .«put-pair2» .ensures))
+    let k1 = c .before .before .before .before .before .before in
+    let k2 = k1 .before .before .before .before in
+    let k3 = k2 .before .before in
+    lays-as (ap₂ (λ (a b : ℕ). pairIn 1 (e .x) (e .y) ++ pairIn 1 a b) (k3 .«byte-of» .ensures ∙ ap byteOf (toZ-ofZ fx)) (k2 .«byte-of2» .ensures ∙ ap byteOf (toZ-ofZ fy))) refl (lays-both (k1 .«put-pair» .ensures) (c .before .before .«put-pair2» .ensures))
 
 pub put-mover-spec : {M : Type 1} → statement M
 put-mover-spec =

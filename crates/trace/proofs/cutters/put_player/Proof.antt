@@ -50,8 +50,12 @@ returns c =
     let p = c .before .before .before .before .before .before .before .before .before .before .before .before .before .before .before .before .before .before .args .c in
     let fx : SFits w8 (p .dx) = search needs in
     let fy : SFits w8 (p .dy) = search (needs, c .before .before .before .before .before .before .before .before .before .before .before .before .before .before .before .before .struct-told .given .1 .1 .1 .1 .0) in
-    lays-as (ap₂ (λ (a b : ℕ). pairIn PLACE (p .px) (p .py) ++ pairIn 1 a b ++ bytesIn 1 (bit (p .trailing))) (c .before .before .before .before .before .before .before .before .before .before .before .before .before .before .before .«byte-of» .ensures ∙ ap byteOf (toZ-ofZ fx)) (c .before .before .before .before .before .before .before .before .before .before .before .before .before .«byte-of2» .ensures ∙ ap byteOf (toZ-ofZ fy))) refl
-    (lays-both (lays-both (c .before .before .before .before .before .before .before .before .before .before .before .«put-pair» .ensures) (c .before .before .before .before .before .before .before .«put-pair2» .ensures)) (c .before .before .«put-word» .ensures))
+    let k1 = c .before .before .before .before .before .before .before in
+    let k2 = k1 .before .before .before .before in
+    let k3 = k2 .before .before in
+    let k4 = k3 .before .before in
+    lays-as (ap₂ (λ (a b : ℕ). pairIn PLACE (p .px) (p .py) ++ pairIn 1 a b ++ bytesIn 1 (bit (p .trailing))) (k4 .«byte-of» .ensures ∙ ap byteOf (toZ-ofZ fx)) (k3 .«byte-of2» .ensures ∙ ap byteOf (toZ-ofZ fy))) refl
+    (lays-both (lays-both (k2 .«put-pair» .ensures) (k1 .«put-pair2» .ensures)) (c .before .before .«put-word» .ensures))
 
 pub put-player-spec : {M : Type 1} → statement M
 put-player-spec =

@@ -46,7 +46,15 @@ shared-slice-read-t23 c = search needs
 
 returns : tie.Need-returns
 unfolding mineOf
-returns c = simp (c .before .before .before .before .before .before .before .before .before .before .«fill» .ensures, c .before .before .before .before .before .before .before .before .«falling-of» .ensures, c .before .before .before .before .before .before .before .«word» .ensures .is, c .before .before .before .before .before .before .«word2» .ensures .is, c .before .before .before .before .before .«enemies-of» .ensures, c .before .before .before .before .«word3» .ensures .is, c .before .before .before .«word4» .ensures .is, c .before .before .«word5» .ensures .is)
+returns c =
+    let k1 = c .before .before .before in
+    let k2 = k1 .before in
+    let k3 = k2 .before in
+    let k4 = k3 .before in
+    let k5 = k4 .before in
+    let k6 = k5 .before in
+    let k7 = k6 .before .before in
+    simp (k7 .«fill» .ensures, k6 .«falling-of» .ensures, k5 .«word» .ensures .is, k4 .«word2» .ensures .is, k3 .«enemies-of» .ensures, k2 .«word3» .ensures .is, k1 .«word4» .ensures .is, c .before .before .«word5» .ensures .is)
 
 pub mine-of-spec : {M : Type 1} → statement M
 mine-of-spec =

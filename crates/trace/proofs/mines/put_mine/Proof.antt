@@ -14,13 +14,28 @@ put-falling-requires : tie.Need-put-falling-requires
 put-falling-requires c κs = omega (arith, c .before .before .before .«put-grid» .ensures .size, c .before .before .before .before .before .before .before .before .before .pre)
 
 put-pair-requires : tie.Need-put-pair-requires
-put-pair-requires c κs = omega (arith, c .before .before .before .before .before .before .before .«put-grid» .ensures .size, c .before .before .before .«put-falling» .ensures .size, c .before .before .before .before .before .before .before .before .before .before .before .before .before .pre)
+put-pair-requires c κs =
+    let k1 = c .before .before .before in
+    let k2 = k1 .before .before .before .before in
+    let k3 = k2 .before .before .before .before .before .before in
+    omega (arith, k2 .«put-grid» .ensures .size, k1 .«put-falling» .ensures .size, k3 .pre)
 
 put-enemies-requires : tie.Need-put-enemies-requires
-put-enemies-requires c κs = omega (arith, c .before .before .before .before .before .before .before .before .before .before .before .«put-grid» .ensures .size, c .before .before .before .before .before .before .before .«put-falling» .ensures .size, c .before .before .before .«put-pair» .ensures .size, c .before .before .before .before .before .before .before .before .before .before .before .before .before .before .before .before .before .pre)
+put-enemies-requires c κs =
+    let k1 = c .before .before .before in
+    let k2 = k1 .before .before .before .before in
+    let k3 = k2 .before .before .before .before in
+    let k4 = k3 .before .before .before .before .before .before in
+    omega (arith, k3 .«put-grid» .ensures .size, k2 .«put-falling» .ensures .size, k1 .«put-pair» .ensures .size, k4 .pre)
 
 put-word-requires : tie.Need-put-word-requires
-put-word-requires c κs = omega (arith, c .before .before .before .before .before .before .before .before .before .before .before .before .before .before .before .«put-grid» .ensures .size, c .before .before .before .before .before .before .before .before .before .before .before .«put-falling» .ensures .size, c .before .before .before .before .before .before .before .«put-pair» .ensures .size, c .before .before .before .«put-enemies» .ensures .size, c .before .before .before .before .before .before .before .before .before .before .before .before .before .before .before .before .before .before .before .before .before .pre)
+put-word-requires c κs =
+    let k1 = c .before .before .before in
+    let k2 = k1 .before .before .before .before in
+    let k3 = k2 .before .before .before .before in
+    let k4 = k3 .before .before .before .before in
+    let k5 = k4 .before .before .before .before .before .before in
+    omega (arith, k4 .«put-grid» .ensures .size, k3 .«put-falling» .ensures .size, k2 .«put-pair» .ensures .size, k1 .«put-enemies» .ensures .size, k5 .pre)
 
 cast-put-pair : tie.Need-cast-put-pair
 cast-put-pair c = search needs
@@ -29,7 +44,14 @@ cast-put-pair-2 : tie.Need-cast-put-pair-2
 cast-put-pair-2 c = search needs
 
 put-pair-requires-2 : tie.Need-put-pair-requires-2
-put-pair-requires-2 c κs = omega (arith, c .before .before .before .before .before .before .before .before .before .before .before .before .before .before .before .before .before .before .before .before .before .«put-grid» .ensures .size, c .before .before .before .before .before .before .before .before .before .before .before .before .before .before .before .before .before .«put-falling» .ensures .size, c .before .before .before .before .before .before .before .before .before .before .before .before .before .«put-pair» .ensures .size, c .before .before .before .before .before .before .before .before .before .«put-enemies» .ensures .size, c .before .before .before .before .before .«put-word» .ensures .size, c .before .before .before .before .before .before .before .before .before .before .before .before .before .before .before .before .before .before .before .before .before .before .before .before .before .before .before .pre)
+put-pair-requires-2 c κs =
+    let k1 = c .before .before .before .before .before in
+    let k2 = k1 .before .before .before .before in
+    let k3 = k2 .before .before .before .before in
+    let k4 = k3 .before .before .before .before in
+    let k5 = k4 .before .before .before .before in
+    let k6 = k5 .before .before .before .before .before .before in
+    omega (arith, k5 .«put-grid» .ensures .size, k4 .«put-falling» .ensures .size, k3 .«put-pair» .ensures .size, k2 .«put-enemies» .ensures .size, k1 .«put-word» .ensures .size, k6 .pre)
 
 cast-put-pair-3 : tie.Need-cast-put-pair-3
 cast-put-pair-3 c = search needs
@@ -38,17 +60,51 @@ cast-put-pair-4 : tie.Need-cast-put-pair-4
 cast-put-pair-4 c = search needs
 
 put-pair-requires-3 : tie.Need-put-pair-requires-3
-put-pair-requires-3 c κs = omega (arith, c .before .before .before .before .before .before .before .before .before .before .before .before .before .before .before .before .before .before .before .before .before .before .before .before .before .before .before .«put-grid» .ensures .size, c .before .before .before .before .before .before .before .before .before .before .before .before .before .before .before .before .before .before .before .before .before .before .before .«put-falling» .ensures .size, c .before .before .before .before .before .before .before .before .before .before .before .before .before .before .before .before .before .before .before .«put-pair» .ensures .size, c .before .before .before .before .before .before .before .before .before .before .before .before .before .before .before .«put-enemies» .ensures .size, c .before .before .before .before .before .before .before .before .before .before .before .«put-word» .ensures .size, c .before .before .before .before .before .«put-pair2» .ensures .size, c .before .before .before .before .before .before .before .before .before .before .before .before .before .before .before .before .before .before .before .before .before .before .before .before .before .before .before .before .before .before .before .before .before .pre)
+put-pair-requires-3 c κs =
+    let k1 = c .before .before .before .before .before in
+    let k2 = k1 .before .before .before .before .before .before in
+    let k3 = k2 .before .before .before .before in
+    let k4 = k3 .before .before .before .before in
+    let k5 = k4 .before .before .before .before in
+    let k6 = k5 .before .before .before .before in
+    let k7 = k6 .before .before .before .before .before .before in
+    omega (arith, k6 .«put-grid» .ensures .size, k5 .«put-falling» .ensures .size, k4 .«put-pair» .ensures .size, k3 .«put-enemies» .ensures .size, k2 .«put-word» .ensures .size, k1 .«put-pair2» .ensures .size, k7 .pre)
 
 put-pair-requires-4 : tie.Need-put-pair-requires-4
-put-pair-requires-4 c κs = omega (arith, c .before .before .before .before .before .before .before .before .before .before .before .before .before .before .before .before .before .before .before .before .before .before .before .before .before .before .before .before .before .before .before .«put-grid» .ensures .size, c .before .before .before .before .before .before .before .before .before .before .before .before .before .before .before .before .before .before .before .before .before .before .before .before .before .before .before .«put-falling» .ensures .size, c .before .before .before .before .before .before .before .before .before .before .before .before .before .before .before .before .before .before .before .before .before .before .before .«put-pair» .ensures .size, c .before .before .before .before .before .before .before .before .before .before .before .before .before .before .before .before .before .before .before .«put-enemies» .ensures .size, c .before .before .before .before .before .before .before .before .before .before .before .before .before .before .before .«put-word» .ensures .size, c .before .before .before .before .before .before .before .before .before .«put-pair2» .ensures .size, c .before .before .before .«put-pair3» .ensures .size, c .before .before .before .before .before .before .before .before .before .before .before .before .before .before .before .before .before .before .before .before .before .before .before .before .before .before .before .before .before .before .before .before .before .before .before .before .before .pre)
+put-pair-requires-4 c κs =
+    let k1 = c .before .before .before in
+    let k2 = k1 .before .before .before .before .before .before in
+    let k3 = k2 .before .before .before .before .before .before in
+    let k4 = k3 .before .before .before .before in
+    let k5 = k4 .before .before .before .before in
+    let k6 = k5 .before .before .before .before in
+    let k7 = k6 .before .before .before .before in
+    let k8 = k7 .before .before .before .before .before .before in
+    omega (arith, k7 .«put-grid» .ensures .size, k6 .«put-falling» .ensures .size, k5 .«put-pair» .ensures .size, k4 .«put-enemies» .ensures .size, k3 .«put-word» .ensures .size, k2 .«put-pair2» .ensures .size, k1 .«put-pair3» .ensures .size, k8 .pre)
 
 same-length : tie.Need-same-length
-same-length c = c .before .before .«put-pair4» .ensures .size ∙ c .before .before .before .before .before .before .«put-pair3» .ensures .size ∙ c .before .before .before .before .before .before .before .before .before .before .before .before .«put-pair2» .ensures .size ∙ c .before .before .before .before .before .before .before .before .before .before .before .before .before .before .before .before .before .before .«put-word» .ensures .size ∙ c .before .before .before .before .before .before .before .before .before .before .before .before .before .before .before .before .before .before .before .before .before .before .«put-enemies» .ensures .size ∙ c .before .before .before .before .before .before .before .before .before .before .before .before .before .before .before .before .before .before .before .before .before .before .before .before .before .before .«put-pair» .ensures .size ∙ c .before .before .before .before .before .before .before .before .before .before .before .before .before .before .before .before .before .before .before .before .before .before .before .before .before .before .before .before .before .before .«put-falling» .ensures .size ∙ c .before .before .before .before .before .before .before .before .before .before .before .before .before .before .before .before .before .before .before .before .before .before .before .before .before .before .before .before .before .before .before .before .before .before .«put-grid» .ensures .size
+same-length c =
+    let k1 = c .before .before .before .before .before .before in
+    let k2 = k1 .before .before .before .before .before .before in
+    let k3 = k2 .before .before .before .before .before .before in
+    let k4 = k3 .before .before .before .before in
+    let k5 = k4 .before .before .before .before in
+    let k6 = k5 .before .before .before .before in
+    let k7 = k6 .before .before .before .before in
+    c .before .before .«put-pair4» .ensures .size ∙ k1 .«put-pair3» .ensures .size ∙ k2 .«put-pair2» .ensures .size ∙ k3 .«put-word» .ensures .size ∙ k4 .«put-enemies» .ensures .size ∙ k5 .«put-pair» .ensures .size ∙ k6 .«put-falling» .ensures .size ∙ k7 .«put-grid» .ensures .size
 
 returns : tie.Need-returns
 unfolding mineBytes
-returns c = lays-whole (c .before .before .before .before .before .before .before .before .before .before .before .before .before .before .before .before .before .before .before .before .before .before .before .before .before .before .before .before .before .before .before .before .before .before .before .before .before .before .before .before .pre) (lays-both (lays-both (lays-both (lays-both (lays-both (lays-both (lays-both (c .before .before .before .before .before .before .before .before .before .before .before .before .before .before .before .before .before .before .before .before .before .before .before .before .before .before .before .before .before .before .before .before .before .before .«put-grid» .ensures) (c .before .before .before .before .before .before .before .before .before .before .before .before .before .before .before .before .before .before .before .before .before .before .before .before .before .before .before .before .before .before .«put-falling» .ensures)) (c .before .before .before .before .before .before .before .before .before .before .before .before .before .before .before .before .before .before .before .before .before .before .before .before .before .before .«put-pair» .ensures)) (c .before .before .before .before .before .before .before .before .before .before .before .before .before .before .before .before .before .before .before .before .before .before .«put-enemies» .ensures)) (c .before .before .before .before .before .before .before .before .before .before .before .before .before .before .before .before .before .before .«put-word» .ensures)) (c .before .before .before .before .before .before .before .before .before .before .before .before .«put-pair2» .ensures)) (c .before .before .before .before .before .before .«put-pair3» .ensures)) (c .before .before .«put-pair4» .ensures))
+returns c =
+    let k1 = c .before .before .before .before .before .before in
+    let k2 = k1 .before .before .before .before .before .before in
+    let k3 = k2 .before .before .before .before .before .before in
+    let k4 = k3 .before .before .before .before in
+    let k5 = k4 .before .before .before .before in
+    let k6 = k5 .before .before .before .before in
+    let k7 = k6 .before .before .before .before in
+    let k8 = k7 .before .before .before .before .before .before in
+    lays-whole (k8 .pre) (lays-both (lays-both (lays-both (lays-both (lays-both (lays-both (lays-both (k7 .«put-grid» .ensures) (k6 .«put-falling» .ensures)) (k5 .«put-pair» .ensures)) (k4 .«put-enemies» .ensures)) (k3 .«put-word» .ensures)) (k2 .«put-pair2» .ensures)) (k1 .«put-pair3» .ensures)) (c .before .before .«put-pair4» .ensures))
 
 pub put-mine-spec : {M : Type 1} → statement M
 put-mine-spec =
