@@ -32,34 +32,44 @@ impl Clock {
         &self,
         states: &[S],
         hold: impl Fn(&S) -> G,
-        mut rust: impl FnMut(&S, &mut G),
+        rust: impl FnMut(&S, &mut G),
         mut ours: impl FnMut(&S),
+    ) -> Pair {
+        self.both(states, (hold, rust), (|_: &S| (), |s: &S, _: &mut ()| ours(s)))
+    }
+
+    /// The same where ours changes something too: each side comes with what makes that.
+    pub fn both<S, G, O>(
+        &self,
+        states: &[S],
+        (hold, mut rust): (impl Fn(&S) -> G, impl FnMut(&S, &mut G)),
+        (own, mut ours): (impl Fn(&S) -> O, impl FnMut(&S, &mut O)),
     ) -> Pair {
         let mut least = Pair { rust: f64::INFINITY, ours: f64::INFINITY };
         let begun = Instant::now();
         while begun.elapsed() < self.span {
             for _ in 0..2 {
-                let mut games: Vec<G> = states.iter().map(&hold).collect();
-                let mut run = || {
-                    for (s, g) in states.iter().zip(&mut games) {
-                        rust(black_box(s), black_box(g));
-                    }
-                };
-                least.rust = least.rust.min(batch(&mut run));
-                black_box(games);
+                least.rust = least.rust.min(held(states, &hold, &mut rust));
             }
             for _ in 0..2 {
-                let mut run = || {
-                    for s in states {
-                        ours(black_box(s));
-                    }
-                };
-                least.ours = least.ours.min(batch(&mut run));
+                least.ours = least.ours.min(held(states, &own, &mut ours));
             }
         }
         let each = |batch: f64| (batch - self.empty) / states.len() as f64;
         Pair { rust: each(least.rust), ours: each(least.ours) }
     }
+}
+
+/// One batch over what `hold` makes of the states.
+fn held<S, G>(states: &[S], hold: impl Fn(&S) -> G, mut play: impl FnMut(&S, &mut G)) -> f64 {
+    let mut games: Vec<G> = states.iter().map(hold).collect();
+    let took = batch(|| {
+        for (s, g) in states.iter().zip(&mut games) {
+            play(black_box(s), black_box(g));
+        }
+    });
+    black_box(games);
+    took
 }
 
 #[inline(never)]

@@ -63,6 +63,28 @@ impl Table {
         self.row(what, self.0.pair(states, hold, rust, ours), aim);
     }
 
+    /// A rule that both play in place, ours on a state of its own. Both must give the same.
+    #[expect(clippy::too_many_arguments, reason = "each is one word of a row")]
+    pub fn in_place<S, G, T: Clone + PartialEq + Debug>(
+        &self,
+        what: &str,
+        aim: Aim,
+        states: &[S],
+        hold: impl Fn(&S) -> G,
+        rust: impl Fn(&S, &mut G),
+        after: impl Fn(&G) -> T,
+        ours: impl Fn(&S, &mut T),
+    ) {
+        let own = |s: &S| after(&hold(s));
+        for s in states {
+            let (mut held, mut owned) = (hold(s), own(s));
+            rust(s, &mut held);
+            ours(s, &mut owned);
+            assert_eq!(after(&held), owned, "{what}");
+        }
+        self.row(what, self.0.both(states, (&hold, rust), (own, ours)), aim);
+    }
+
     /// What is asked of a state and changes nothing. Both must answer the same.
     pub fn answer<S, G, T: PartialEq + Debug>(
         &self,
