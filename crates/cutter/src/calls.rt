@@ -1,11 +1,11 @@
 // The calls on a state: each checks it once, and refuses it or plays.
+use cutter_check::check;
 use cutter_level::creatures_of;
 use cutter_level::draws_ok;
 use cutter_pass::INTERIOR;
 use cutter_rules::LEFT;
 use cutter_state::Cutter;
 use cutter_state::MAX_LIVES;
-use cutter_state::check;
 use ground::CB_FILLED;
 use ground::CB_TRAIL;
 use ground::CN;

@@ -1,7 +1,7 @@
 // The picture of a state.
+use cutter_check::check;
 use cutter_picture::cutter_render;
 use cutter_state::Cutter;
-use cutter_state::check;
 use frame::FRAME_LEN;
 use refusal::Refusal;
 ghost use mathlib.Core.Path.{_≡_};

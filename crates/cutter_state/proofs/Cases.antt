@@ -1,26 +1,62 @@
--- The order of the checks: a state wrong in each of the four ways, put right one after the other. Computed; assumes nothing.
-use mathlib.Core.Bool.{false}
+-- The order of the checks, and the nearest wrong value of each part. Computed; assumes nothing.
+use mathlib.Core.Bool.{Bool, true, false}
+use mathlib.Core.List.{List, _∷_, _++_}
 use mathlib.Core.Path.{_≡_, refl}
-use Prim.Native.Nat.{ℕ}
-use lib.IntN.{pos}
+use Prim.Native.Nat.{ℕ, _+_, _-_}
+use lib.IntN.{ℤ, pos, negsuc}
 use lib.ListN.{replicate}
 use Rattle.refusal.specs.Refusal.{NONE, CELLS, PLAYER, CREATURES, NUMBERS}
-use Rattle.ground.specs.Cells.{CW, CN, MAX-ENEMIES, CB-BLACK, CB-FILLED}
+use Rattle.ground.specs.Cells.{CW, CN, MAX-ENEMIES, CB-BLACK, CB-FILLED, CB-TRAIL}
+use Rattle.ground.specs.declared.Mover.{Mover}
 use Rattle.cutter_state.specs.declared.Cutter.{Cutter}
 use Rattle.cutter_state.specs.State.{holdsAt}
-use Rattle.cutter_state.specs.WellFormed.{rowsFilled, columnsFilled, cellsOk, playerOk, blank, creaturesOk, numbersOk, refusalOf}
+use Rattle.cutter_state.specs.WellFormed.{rowsFilled, columnsFilled, cellsOk, directionOk, playerOk, moverOk, blank, creaturesOk, numbersOk, refusalOf}
 
--- all cells of one code, the player in a column of row 1, so many creatures, a level
-abbrev stateOf : ℕ → ℕ → ℕ → ℕ → Cutter
-stateOf k x n level = record { grid = replicate CN k; px = x; py = 1; dx = pos 0; dy = pos 0; trailing = false; enemies = replicate MAX-ENEMIES (record { x = 0; y = 0; vx = pos 0; vy = pos 0 }); count = n; level = level; lives = 3; dead = false; «won_level» = false }
+abbrev mover : ℕ → ℕ → ℤ → ℤ → Mover
+mover x y vx vy = record { x = x; y = y; vx = vx; vy = vy }
 
+-- the cells, the player in a column of row 1, the slots, so many creatures, a level, lives
+abbrev stateOf : List ℕ → ℕ → List Mover → ℕ → ℕ → ℕ → Cutter
+stateOf g x es n level lives = record { grid = g; px = x; py = 1; dx = pos 0; dy = pos 0; trailing = false; enemies = es; count = n; level = level; lives = lives; dead = false; «won_level» = false }
+
+abbrev slots : Mover → List Mover
+slots e = replicate MAX-ENEMIES e
+
+abbrev zeros : List Mover
+zeros = slots (mover 0 0 (pos 0) (pos 0))
+
+abbrev cells : ℕ → List ℕ
+cells k = replicate CN k
+
+-- claimed but for one code at (1, 1)
+abbrev but : ℕ → List ℕ
+but k = replicate (CW + 1) CB-FILLED ++ (k ∷ replicate (CN - CW - 2) CB-FILLED)
+
+-- a state wrong in each of the four ways, put right one after the other
 pub record Order : Type 0 where
-  pub one : refusalOf (stateOf CB-BLACK CW 17 0) ≡ CELLS
-  pub two : refusalOf (stateOf CB-FILLED CW 17 0) ≡ PLAYER
-  pub three : refusalOf (stateOf CB-FILLED 0 17 0) ≡ CREATURES
-  pub four : refusalOf (stateOf CB-FILLED 0 0 0) ≡ NUMBERS
-  pub none : refusalOf (stateOf CB-FILLED 0 0 1) ≡ NONE
+  pub one : refusalOf (stateOf (cells CB-BLACK) CW zeros 17 0 3) ≡ CELLS
+  pub two : refusalOf (stateOf (cells CB-FILLED) CW zeros 17 0 3) ≡ PLAYER
+  pub three : refusalOf (stateOf (cells CB-FILLED) 0 zeros 17 0 3) ≡ CREATURES
+  pub four : refusalOf (stateOf (cells CB-FILLED) 0 zeros 0 0 3) ≡ NUMBERS
+  pub none : refusalOf (stateOf (cells CB-FILLED) 0 zeros 0 1 3) ≡ NONE
 
 pub order : Order
-unfolding refusalOf cellsOk rowsFilled columnsFilled playerOk creaturesOk numbersOk blank holdsAt
+unfolding refusalOf cellsOk rowsFilled columnsFilled playerOk moverOk creaturesOk numbersOk blank holdsAt
 order = record { one = refl; two = refl; three = refl; four = refl; none = refl }
+
+-- each part with one thing wrong, by one
+pub record Nearest : Type 0 where
+  pub hole : cellsOk (CB-BLACK ∷ replicate (CN - 1) CB-FILLED) false ≡ false
+  pub lineAlone : cellsOk (but CB-TRAIL) false ≡ false
+  pub trailingAlone : cellsOk (cells CB-FILLED) true ≡ false
+  pub diagonal : directionOk (pos 1) (pos 1) ≡ false
+  pub right : moverOk (but CB-BLACK) (mover 1 1 (pos 1) (negsuc 0)) ≡ true
+  pub claimed : moverOk (but CB-BLACK) (mover 2 1 (pos 1) (negsuc 0)) ≡ false
+  pub still : moverOk (but CB-BLACK) (mover 1 1 (pos 0) (negsuc 0)) ≡ false
+  pub sixteen : creaturesOk (stateOf (but CB-BLACK) 0 (slots (mover 1 1 (pos 1) (pos 1))) 16 1 3) ≡ true
+  pub seventeen : creaturesOk (stateOf (but CB-BLACK) 0 (slots (mover 1 1 (pos 1) (pos 1))) 17 1 3) ≡ false
+  pub fourLives : numbersOk (stateOf (cells CB-FILLED) 0 zeros 0 1 4) ≡ false
+
+pub nearest : Nearest
+unfolding cellsOk rowsFilled columnsFilled moverOk creaturesOk numbersOk blank holdsAt
+nearest = record { hole = refl; lineAlone = refl; trailingAlone = refl; diagonal = refl; right = refl; claimed = refl; still = refl; sixteen = refl; seventeen = refl; fourLives = refl }

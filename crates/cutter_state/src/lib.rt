@@ -1,7 +1,4 @@
-// Block Cutter: the state, and the check of a state that a caller hands in.
-mod checks;
-
-pub use checks::check;
+// Block Cutter: the state.
 use ground::CN;
 use ground::MAX_ENEMIES;
 use ground::Mover;

@@ -26,7 +26,7 @@ pub extern "C" fn copy_cutter(c: Cutter) -> Cutter
 pub extern "C" fn check_cutter(c: Cutter) -> Refusal
     ensures { λ r. ⌜ r ≡ refusalOf c ⌝ }
 {
-    cutter_state::check(c)
+    cutter_check::check(c)
 }
 
 #[no_mangle]

@@ -22,7 +22,7 @@ pub extern "C" fn copy_mine(m: Mine) -> Mine
 pub extern "C" fn check_mine(m: Mine) -> Refusal
     ensures { λ r. ⌜ r ≡ refusalOf m ⌝ }
 {
-    mine_state::check(m)
+    mine_check::check(m)
 }
 
 #[no_mangle]

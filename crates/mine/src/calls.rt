@@ -1,7 +1,7 @@
 // The calls on a state: each checks it once, and refuses it or plays.
+use mine_check::check;
 use mine_rules::LEFT;
 use mine_state::Mine;
-use mine_state::check;
 use refusal::Refusal;
 ghost use mathlib.Core.Path.{_≡_};
 ghost use Rattle.mine_rules.specs.Load.{loaded};

@@ -1,7 +1,7 @@
 // The picture of a state.
 use frame::FRAME_LEN;
+use mine_check::check;
 use mine_state::Mine;
-use mine_state::check;
 use refusal::Refusal;
 ghost use mathlib.Core.Path.{_≡_};
 ghost use Rattle.mine.specs.Picture.{pictureOf};

@@ -1,4 +1,5 @@
 // The one level, and how a text is read as a mine.
+use mine_check::coin_count;
 use mine_rules::RIGHT;
 use mine_state::AREA;
 use mine_state::BOULDER;
@@ -11,7 +12,6 @@ use mine_state::MAX_ENEMIES;
 use mine_state::Mine;
 use mine_state::W;
 use mine_state::WALL;
-use mine_state::coin_count;
 ghost use mathlib.Core.Path.{_≡_};
 ghost use lib.ListN.{length};
 ghost use Rattle.mine_state.specs.State.{AREA};

@@ -1,5 +1,6 @@
 // One turn of Block Mine's loop: what is left of it when keys, clock and record are numbers.
 use answer::Answer;
+use mine_check::check;
 use mine_fall::gravity;
 use mine_moves::move_enemies;
 use mine_moves::step_player;
@@ -8,7 +9,6 @@ use mine_rules::LEFT;
 use mine_rules::RIGHT;
 use mine_rules::UP;
 use mine_state::Mine;
-use mine_state::check;
 use pace::both_ticks;
 use refusal::Refusal;
 ghost use mathlib.Core.Bool.{cond};

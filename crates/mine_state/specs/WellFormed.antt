@@ -81,12 +81,3 @@ pub record Sound (m : Mine) : Type 0 where
   pub placed : allOnMap (m .enemies) ≡ true
   pub home : (m .px < W) × (m .py < H)
   pub coins : purse m ≤ AREA
-
--- what the passes over a grid and the first n of the slots ask
-pub record Counted (g : List ℕ) (n : ℕ) : Type 0 where
-  pub cells : length g ≡ AREA
-  pub few : n ≤ MAX-ENEMIES
-
-pub record Part (from n : ℕ) : Type 0 where
-  pub begins : from ≤ n
-  pub few : n ≤ MAX-ENEMIES

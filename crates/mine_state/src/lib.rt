@@ -1,9 +1,6 @@
-// Block Mine: the state, who stands where, and the check of a state that a caller hands in.
-mod checks;
+// Block Mine: the state, and who stands where.
 mod spots;
 
-pub use checks::check;
-pub use checks::coin_count;
 pub use spots::enemy_at;
 pub use spots::free;
 pub use spots::spots_of;
