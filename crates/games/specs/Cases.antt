@@ -11,8 +11,7 @@ use Rattle.mine_rules.specs.Ways.{RIGHT}
 use Rattle.mine_rules.specs.Load.{loaded}
 use Rattle.mine_rules.specs.Move.{moved}
 use Rattle.mine_rules.specs.Tick.{ticked}
-use Rattle.mine_rules.specs.Cases.{P4, P5, P6, P7, P8}
-use Rattle.mine_rules.proofs.Start.{Start}
+use Rattle.mine_rules.specs.Cases.{P1, P4, P5, P6, P7, P8}
 use Rattle.ground.specs.Cells.{CB-FILLED}
 use Rattle.cutter_state.specs.declared.Cutter.{Cutter}
 use Rattle.cutter_state.specs.State.{place, creatures}
@@ -36,8 +35,8 @@ Split claimed black c = (claimedIn c ≡ claimed) × (blackIn c ≡ black)
 
 -- A fresh level is that of any state c at the level; four draws give a creature's place less 1, then its velocity, 0 for -1 and 1 for 1.
 pub record Cases : Type 0 where
-  -- load: the numbers of the level (mine_rules/proofs/Start.antt)
-  pub p1 : Start
+  -- load: the numbers of the level (mine_rules/specs/Cases.antt)
+  pub p1 : P1
   -- load, right three times: (4,1), 1 coin
   pub p2 : let m : Mine = moved (moved (moved loaded RIGHT) RIGHT) RIGHT in (m .px ≡ 4) × (m .py ≡ 1) × (m .coins ≡ 1)
   -- load, creature tick: no change

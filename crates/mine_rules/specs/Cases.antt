@@ -1,18 +1,34 @@
--- P4 to P8 of document 01 and cases of its other sentences, on small mines.
+-- P1 and P4 to P8 of document 01, and cases of its other sentences on small mines.
 use mathlib.Core.Bool.{true, false}
-use mathlib.Core.List.{_∷_}
+use mathlib.Core.List.{[], _∷_}
 use mathlib.Core.Path.{_≡_}
 use Prim.Native.Nat.{ℕ}
 use lib.ListN.{set, replicate}
 use Rattle.mine_state.specs.declared.Mine.{Mine}
 use Rattle.mine_state.specs.declared.Enemy.{Enemy}
-use Rattle.mine_state.specs.State.{AREA, MAX-ENEMIES, EMPTY, WALL, BOULDER, COIN, EXIT, place, blankSlot}
+use Rattle.mine_state.specs.State.{AREA, MAX-ENEMIES, EMPTY, WALL, BOULDER, COIN, EXIT, place, codeAt, creatures, purse, boulders, blankSlot}
 use Rattle.mine_state.specs.Change.{withMarks, withPlayer, withCell, withCreatures, withCoins, killed, winner}
 use Rattle.mine_state.specs.WellFormed.{wellFormed}
 use Rattle.mine_rules.specs.Ways.{UP, RIGHT, DOWN, LEFT}
+use Rattle.mine_rules.specs.Load.{loaded}
 use Rattle.mine_rules.specs.Move.{moved}
 use Rattle.mine_rules.specs.Gravity.{gravityOf}
 use Rattle.mine_rules.specs.Tick.{ticked}
+
+-- the loaded level: player (1,1); exit (21,12); 38 coins, 17 boulders, needed 28; all marks false; creatures (20,1) and (21,9), both direction 1
+pub record P1 : Type 0 where
+  pub px : loaded .px ≡ 1
+  pub py : loaded .py ≡ 1
+  pub exit : codeAt loaded 21 12 ≡ EXIT
+  pub coins : purse loaded ≡ 38
+  pub hand : loaded .coins ≡ 0
+  pub stones : boulders loaded ≡ 17
+  pub needed : loaded .needed ≡ 28
+  pub marks : loaded .falling ≡ replicate AREA false
+  pub them : creatures loaded ≡ record { x = 20; y = 1; dir = 1 } ∷ record { x = 21; y = 9; dir = 1 } ∷ []
+  pub alive : loaded .dead ≡ false
+  pub playing : loaded .won ≡ false
+  pub well : wellFormed loaded ≡ true
 
 -- an empty mine without creatures, the player at (1,1)
 abbrev pub bare : Mine

@@ -2,7 +2,7 @@
 use mathlib.Core.Bool.{Bool, true, cond}
 use mathlib.Core.List.{List, [], _∷_}
 use mathlib.Core.Path.{_≡_}
-use Prim.Native.Nat.{ℕ, _+_, _*_, _%_, _≤_}
+use Prim.Native.Nat.{ℕ, _+_, _-_, _*_, _%_, _≤_}
 use lib.Dec.{eqb}
 use lib.ListN.{length, take}
 use Rattle.laws.specs.Lists.{any}
@@ -14,6 +14,7 @@ use Rattle.keys.specs.Keys as Keys
 use Rattle.mine_rules.specs.Load.{loaded}
 use Rattle.mine_pass.specs.declared.MineTurn.{MineTurn}
 use Rattle.mine_pass.specs.Pass as Mine
+use Rattle.ground.specs.Cells.{CW, CH}
 use Rattle.cutter_state.specs.declared.Cutter.{Cutter}
 use Rattle.cutter_rules.specs.Level.{DRAWS, creaturesOf, drawsOk}
 use Rattle.cutter_pass.specs.declared.CutterTurn.{CutterTurn}
@@ -54,7 +55,7 @@ mineTurn p keys time =
 
 -- a draw is below 62, 30, 2 or 2, by its place
 unfoldable pub limitAt : ℕ → ℕ
-limitAt place = cond (eqb (place % DRAWS) 0) 62 (cond (eqb (place % DRAWS) 1) 30 2)
+limitAt place = cond (eqb (place % DRAWS) 0) (CW - 2) (cond (eqb (place % DRAWS) 1) (CH - 2) 2)
 
 -- random bytes from a place on as draws: each byte's rest by its limit
 unfoldable pub drawsFrom : ℕ → List ℕ → List ℕ
