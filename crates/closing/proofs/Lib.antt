@@ -1,7 +1,3 @@
-pub mod Crowd
-pub mod Lead
-pub mod Match
-pub mod Herds
-pub mod Claims
-pub mod Whole
-pub mod Account
+pub mod Cases
+pub mod Labels
+pub mod Sums

@@ -1,3 +1,2 @@
 pub mod Closing
 pub mod Account
-pub mod Steps

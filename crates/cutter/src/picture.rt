@@ -1,6 +1,6 @@
 // The picture of a state.
 use cutter_check::check;
-use cutter_picture::cutter_render;
+use cutter_render::cutter_render;
 use cutter_state::Cutter;
 use frame::FRAME_LEN;
 use refusal::Refusal;

@@ -15,7 +15,7 @@ use Rattle.ground.specs.declared.Mover.{Mover}
 use Rattle.regions.specs.Regions.{MAX-COMP}
 use Rattle.closing.specs.Closing.{closeCut}
 use Rattle.closing.specs.declared.Cut.{Cut}
-use Rattle.closing.proofs.Account.{claimed-after, black-after, length-after, all-after, line-after, no-line-after, claimed-stays, creatures-after, spare-after, few-after, slots-after, all-left, left-on-black}
+use Rattle.closing.proofs.Sums.{claimed-after, black-after, length-after, all-after, line-after, no-line-after, claimed-stays, creatures-after, spare-after, few-after, slots-after, all-left, left-on-black}
 use Rattle.cutter_state.specs.declared.Cutter.{Cutter}
 use Rattle.cutter_state.specs.State.{creatures}
 use Rattle.cutter_state.specs.WellFormed.{isCode, moverOk, WellFormed}

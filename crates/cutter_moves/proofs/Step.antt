@@ -11,7 +11,7 @@ use Rattle.laws.proofs.Lists.{all-weaken}
 use Rattle.joined.proofs.Joined.{black-in}
 use Rattle.ground.specs.Cells.{CN, CB-BLACK, cellAt, cellOf}
 use Rattle.ground.specs.declared.Mover.{Mover}
-use Rattle.closing.specs.Steps.{inside, Closable}
+use Rattle.capture.specs.Steps.{inside, Closable}
 use Rattle.cutter_state.specs.declared.Cutter.{Cutter}
 use Rattle.cutter_state.specs.State.{creatures}
 use Rattle.cutter_state.specs.WellFormed.{moverOk, WellFormed}

@@ -5,7 +5,7 @@ ghost use mathlib.Core.Path.{_≡_};
 ghost use Prim.Native.Nat.{_<_};
 ghost use lib.ListN.{length};
 ghost use Rattle.ground.specs.Cells.{CN};
-ghost use Rattle.closing.specs.Steps.{Closable};
+ghost use Rattle.capture.specs.Steps.{Closable};
 ghost use Rattle.cutter_state.specs.Change.{withDirection};
 ghost use Rattle.cutter_state.specs.WellFormed.{isZero, WellFormed};
 ghost use Rattle.cutter_rules.specs.Step.{directed, entered, cutClosed, atBorder, trailingStep, walkingStep, stepped, lineErased, respawned};
@@ -14,7 +14,7 @@ ghost use Rattle.cutter_moves.specs.Steps.{closedAt, laying, Lends, Make
 use crate::ahead::diagonal_of;
 use crate::enemies::enemy_at;
 use border::move_to_border;
-use closing::close_cut;
+use capture::close_cut;
 use cutter_level::at_start;
 use cutter_rules::DOWN;
 use cutter_rules::RIGHT;

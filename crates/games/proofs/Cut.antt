@@ -14,7 +14,7 @@ use Rattle.joined.proofs.Certificate.{every4, cellOk, rightTest, right-by-test}
 use Rattle.regions.specs.Regions.{MAX-COMP, rootsFrom, counted, cellsIn}
 use Rattle.closing.specs.declared.Cut.{Cut}
 use Rattle.closing.specs.Closing.{claimLine, slots, best, keptOf, claim, closeCut}
-use Rattle.closing.proofs.Whole.{closing-by}
+use Rattle.closing.proofs.Labels.{closing-by}
 use Rattle.cutter_state.specs.declared.Cutter.{Cutter}
 use Rattle.cutter_rules.specs.Ahead.{along}
 use Rattle.cutter_rules.specs.Level.{edge, rows, freshGrid, velocity, drawn, atStart, freshLevel}

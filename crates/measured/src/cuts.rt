@@ -76,5 +76,5 @@ pub extern "C" fn rule_cutter_picture(c: Cutter, frame: &mut [u8])
     requires { ⌜ Drawable c (now frame) ⌝ }
     ensures { λ _. ⌜ now (frame .exit) ≡ pack (cutLit c) ⌝ }
 {
-    cutter_picture::cutter_render(c, frame);
+    cutter_render::cutter_render(c, frame);
 }

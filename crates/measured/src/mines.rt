@@ -61,5 +61,5 @@ pub extern "C" fn rule_mine_picture(m: Mine, frame: &mut [u8])
     requires { ⌜ Drawable m (now frame) ⌝ }
     ensures { λ _. ⌜ now (frame .exit) ≡ pack (mineLit m) ⌝ }
 {
-    mine_picture::render(m, frame);
+    mine_render::render(m, frame);
 }

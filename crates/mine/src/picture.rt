@@ -17,6 +17,6 @@ pub fn render(m: Mine, frame: &mut [u8]) -> Refusal
     if frame.len() != FRAME_LEN {
         return refusal::FRAME;
     }
-    mine_picture::render(m, frame);
+    mine_render::render(m, frame);
     refusal::NONE
 }

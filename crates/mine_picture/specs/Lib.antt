@@ -1,3 +1,2 @@
 pub mod Art
 pub mod Picture
-pub mod Draw

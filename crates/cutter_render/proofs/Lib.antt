@@ -1,0 +1,3 @@
+pub mod Ground
+pub mod Marks
+pub mod Layers
