@@ -1,11 +1,12 @@
 -- The cells ahead by the sign of a velocity. Assumes nothing.
-use mathlib.Core.Bool.{true, false}
+use mathlib.Core.Bool.{true, false, false≢true}
 use mathlib.Core.Path.{_≡_, refl}
 use Prim.Native.Nat.{ℕ, zero, suc}
 use native.Mathlib.Omega.{arith}
 use lib.IntN.{ℤ, pos, negsuc}
 use lib.Signed.{ltZ}
 use borrow.Author.Tests.{ltb-true, ltb-false}
+use Rattle.cutter_state.specs.WellFormed.{isUnit}
 use Rattle.cutter_rules.specs.Ahead.{along}
 use Rattle.cutter_rules.specs.Tick.{flipped}
 
@@ -27,6 +28,13 @@ module _ (back on : ℕ → ℕ) (c : ℕ) where
   along-none (negsuc n) e f = let z : _≡_ {A = ℕ} 0 1 = cc in absurd (omega arith)
   along-none (pos zero) e f = refl
   along-none (pos (suc n)) e f = let h = ltb-false 0 (suc n) f in absurd (omega arith)
+
+  -- a unit that isn't negative points on
+  pub along-unit : (v : ℤ) → isUnit v ≡ true → ltZ v (pos 0) ≡ false → on c ≡ along back on v c
+  unfolding along
+  along-unit (negsuc n) u e = let z : _≡_ {A = ℕ} 0 1 = cc in absurd (omega arith)
+  along-unit (pos zero) u e = absurd (false≢true u)
+  along-unit (pos (suc n)) u e = refl
 
 pub flip-back : (v : ℤ) → ltZ v (pos 0) ≡ true → pos 1 ≡ flipped v
 unfolding flipped

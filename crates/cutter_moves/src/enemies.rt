@@ -1,24 +1,23 @@
 // The creatures: who is at a cell, and their tick.
+ghost use mathlib.Core.Bool.{cond, _&&_, _||_};
 ghost use mathlib.Core.Path.{_≡_};
-ghost use Prim.Native.Nat.{_≤_};
-ghost use lib.ListN.{length, take};
-ghost use Rattle.ground.specs.Cells.{CN, MAX-ENEMIES};
-ghost use Rattle.cutter_state.specs.Passes.{Counted};
+ghost use Prim.Native.Nat.{_<_, _≤_};
+ghost use lib.Dec.{eqb};
+ghost use lib.ListN.{take};
+ghost use Rattle.ground.specs.Cells.{CN, MAX-ENEMIES, CB-BLACK, CB-TRAIL};
 ghost use Rattle.cutter_state.specs.WellFormed.{WellFormed};
-ghost use Rattle.cutter_rules.specs.Tick.{creatureAt, lineAt, lineAhead, flipped, turned, gone, bounced, enemiesStepped};
-ghost use Rattle.cutter_moves.specs.Moves.{tickOf};
-use crate::ahead::diagonal_of;
-use crate::ahead::side_of;
-use crate::ahead::vertical_of;
+ghost use Rattle.cutter_rules.specs.Tick.{creatureAt, flipped, gone, bounced, enemiesStepped};
+ghost use Rattle.cutter_moves.specs.Moves.{Roams, Bounces, Ticks, viewOf, moverAt, tickOf};
+use crate::ahead::side_in;
+use crate::ahead::vertical_in;
 use cutter_state::Cutter;
 use found::Found;
+use ground::CB_BLACK;
 use ground::CB_TRAIL;
 use ground::CN;
 use ground::CW;
 use ground::MAX_ENEMIES;
 use ground::Mover;
-use ground::black_at;
-use ground::cell;
 use ground::cell_of;
 
 // The first creature at a cell, or nobody.
@@ -37,22 +36,42 @@ pub fn enemy_at(enemies: [Mover; MAX_ENEMIES], count: usize, at: usize) -> Found
     Found::Nobody
 }
 
-fn line_at(grid: &[u8; CN], at: usize) -> bool
-    requires { ⌜ length (now grid) ≡ CN ⌝ }
-    ensures { λ r. ⌜ r ≡ lineAt (now (grid .entry)) at ⌝ }
+// What a creature has ahead: the diagonal cell, and what the side, the vertical and the diagonal one hold.
+pub struct View {
+    pub to: usize,
+    pub side: u8,
+    pub vertical: u8,
+    pub diagonal: u8,
+}
+
+// A creature stands inside the ring, so no edge is near.
+fn look(grid: &[u8; CN], e: Mover) -> View
+    requires { ⌜ Roams (now grid) e (e .vx) (e .vy) ⌝ }
+    ensures { λ r. ⌜ (r ≡ viewOf (now (grid .entry)) e) × (r .to < CN) ⌝ }
 {
-    cell(grid, at) == CB_TRAIL
+    let at = cell_of(e);
+    let beside = side_in(at, e.vx);
+    let above = vertical_in(at, e.vy);
+    let to = side_in(above, e.vx);
+    View {
+        to: to,
+        side: grid[beside],
+        vertical: grid[above],
+        diagonal: grid[to],
+    }
+}
+
+fn is_clear(v: View) -> bool
+    ensures { λ r. ⌜ r ≡ (eqb (v .side) CB-BLACK && eqb (v .vertical) CB-BLACK && eqb (v .diagonal) CB-BLACK) ⌝ }
+{
+    (v.side == CB_BLACK) & (v.vertical == CB_BLACK) & (v.diagonal == CB_BLACK)
 }
 
 // Touching the line, in any of the three cells ahead, is a breach.
-fn line_ahead(grid: &[u8; CN], e: Mover) -> bool
-    requires { ⌜ length (now grid) ≡ CN ⌝ }
-    ensures { λ r. ⌜ r ≡ lineAhead (now (grid .entry)) e ⌝ }
+fn is_line(v: View) -> bool
+    ensures { λ r. ⌜ r ≡ (eqb (v .side) CB-TRAIL || eqb (v .vertical) CB-TRAIL || eqb (v .diagonal) CB-TRAIL) ⌝ }
 {
-    let at = cell_of(e);
-    line_at(grid, side_of(at, e.vx))
-        | line_at(grid, vertical_of(at, e.vy))
-        | line_at(grid, diagonal_of(at, e.vx, e.vy))
+    (v.side == CB_TRAIL) | (v.vertical == CB_TRAIL) | (v.diagonal == CB_TRAIL)
 }
 
 fn flip(v: i8) -> i8
@@ -61,27 +80,34 @@ fn flip(v: i8) -> i8
     if v < 0 { 1 } else { -1 }
 }
 
-// A velocity part, flipped if the cell ahead is not black.
-fn turn(grid: &[u8; CN], at: usize, v: i8) -> i8
-    requires { ⌜ length (now grid) ≡ CN ⌝ }
-    ensures { λ r. ⌜ r ≡ turned (now (grid .entry)) at v ⌝ }
+// A velocity part, flipped if what is ahead is not black.
+fn turn(code: u8, v: i8) -> i8
+    ensures { λ r. ⌜ r ≡ cond (eqb code CB-BLACK) v (flipped v) ⌝ }
 {
-    if black_at(grid, at) { v } else { flip(v) }
+    if code == CB_BLACK { v } else { flip(v) }
+}
+
+fn put(to: usize, vx: i8, vy: i8) -> Mover
+    requires { ⌜ to < CN ⌝ }
+    ensures { λ r. ⌜ r ≡ moverAt to vx vy ⌝ }
+{
+    Mover {
+        x: (to % CW) as u8,
+        y: (to / CW) as u8,
+        vx: vx,
+        vy: vy,
+    }
 }
 
 // Cornered: keep the velocity, stay put this tick.
 fn go(grid: &[u8; CN], e: Mover, vx: i8, vy: i8) -> Mover
-    requires { ⌜ length (now grid) ≡ CN ⌝ }
+    requires { ⌜ Roams (now grid) e vx vy ⌝ }
     ensures { λ r. ⌜ r ≡ gone (now (grid .entry)) e vx vy ⌝ }
 {
-    let to = diagonal_of(cell_of(e), vx, vy);
-    if black_at(grid, to) {
-        return Mover {
-            x: (to % CW) as u8,
-            y: (to / CW) as u8,
-            vx: vx,
-            vy: vy,
-        };
+    let above = vertical_in(cell_of(e), vy);
+    let to = side_in(above, vx);
+    if grid[to] == CB_BLACK {
+        return put(to, vx, vy);
     }
     Mover {
         x: e.x,
@@ -91,13 +117,12 @@ fn go(grid: &[u8; CN], e: Mover, vx: i8, vy: i8) -> Mover
     }
 }
 
-fn bounce(grid: &[u8; CN], e: Mover) -> Mover
-    requires { ⌜ length (now grid) ≡ CN ⌝ }
+fn bounce(grid: &[u8; CN], e: Mover, v: View) -> Mover
+    requires { ⌜ Bounces (now grid) e v ⌝ }
     ensures { λ r. ⌜ r ≡ bounced (now (grid .entry)) e ⌝ }
 {
-    let at = cell_of(e);
-    let vx = turn(grid, side_of(at, e.vx), e.vx);
-    let vy = turn(grid, vertical_of(at, e.vy), e.vy);
+    let vx = turn(v.side, e.vx);
+    let vy = turn(v.vertical, e.vy);
     go(grid, e, vx, vy)
 }
 
@@ -109,20 +134,26 @@ pub struct Moved {
 
 // Each of the first `count` creatures in order, up to one that meets the line.
 pub fn tick(grid: &[u8; CN], enemies: [Mover; MAX_ENEMIES], count: usize) -> Moved
-    requires { ⌜ Counted (now grid) count ⌝ }
+    requires { ⌜ Ticks (now grid) enemies count ⌝ }
     ensures { λ r. ⌜ r ≡ tickOf (now (grid .entry)) enemies count ⌝ }
 {
     let mut out = enemies;
     let mut i: usize = 0;
     while i < count {
         let e = out[i];
-        if line_ahead(grid, e) {
+        let v = look(grid, e);
+        if is_clear(v) {
+            out[i] = put(v.to, e.vx, e.vy);
+            i += 1;
+            continue;
+        }
+        if is_line(v) {
             return Moved {
                 enemies: out,
                 dead: true,
             };
         }
-        out[i] = bounce(grid, e);
+        out[i] = bounce(grid, e, v);
         i += 1;
     }
     Moved {

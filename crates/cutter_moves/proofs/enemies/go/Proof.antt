@@ -1,11 +1,12 @@
-use mathlib.Core.Path.{sym, _∙_}
-use borrow.Author.Needs.{needs}
-use borrow.Author.Tests.{eqb-true}
+use mathlib.Core.Path.{_≡_, sym, ap, _∙_}
 use native.Mathlib.Omega.{arith}
+use borrow.Author.Needs.{needs}
+use borrow.Author.Tests.{eq-eqb, ne-eqb}
 use mir.Facts.{toZ-ofZ}
 use denote.Ref.{now}
-use Rattle.ground.specs.Cells.{CB-BLACK, cellAt}
-use Rattle.joined.proofs.Joined.{black-in}
+use Rattle.laws.proofs.Lists.{getD-default}
+use Rattle.ground.specs.Cells.{CB-BLACK, CB-FILLED, cellAt}
+use Rattle.cutter_rules.specs.Ahead.{sideOf, diagonalOf}
 use Rattle.cutter_rules.proofs.Tick.{gone-there, gone-not}
 use Rattle.cutter_moves.proofs.enemies.go.Statement.{statement}
 use Rattle.cutter_moves.proofs.enemies.go.Tie as tie
@@ -13,49 +14,50 @@ use Rattle.cutter_moves.proofs.enemies.go.Tie as tie
 cell-of-requires : tie.Need-cell-of-requires
 cell-of-requires c κs = search needs
 
-diagonal-of-requires : tie.Need-diagonal-of-requires
-diagonal-of-requires c κs = search needs
+vertical-in-requires : tie.Need-vertical-in-requires
+vertical-in-requires c κs = search needs
 
-black-at-requires : tie.Need-black-at-requires
-black-at-requires c κs = search needs
+side-in-requires : tie.Need-side-in-requires
+side-in-requires c κs = search needs
 
-cast-t9 : tie.Need-cast-t9
-cast-t9 c = search needs
+element-copy-out-if1 : tie.Need-element-copy-out-if1
+element-copy-out-if1 c = search needs
 
-cast-t11 : tie.Need-cast-t11
-cast-t11 c =
-    let k = c .before .before .before .before in
-    let g = now (k .args .grid) in
-    let to = c .before .before .diagonal-of .result in
-    let b = eqb-true (cellAt g to) CB-BLACK (sym (c .before .black-at .ensures) ∙ c .if1 .taken) in
-    record { fits = omega (arith, black-in g to b, k .pre) }
+put-requires : tie.Need-put-requires
+put-requires c κs = search needs
 
 returns : tie.Need-returns
 returns c =
-    let k = c .before .before .before .before in
+    let h = c .before .before .before in
+    let v = h .before in
+    let k = v .before .before in
     let fx = toZ-ofZ (k .fits .vx) in
     let fy = toZ-ofZ (k .fits .vy) in
-    let p = simp (c .before .before .before .cell-of .ensures, fx, fy) at (c .before .before .diagonal-of .ensures) in
-    simp (fx, fy)
-    (gone-there (now (k .args .grid)) (k .args .e) (k .args .vx) (k .args .vy) _ p (sym (c .before .black-at .ensures) ∙ c .if1 .taken))
+    let p = simp (v .before .cell-of .ensures, fx, fy) at (h .side-in .ensures .0 ∙ ap (sideOf _) (v .vertical-in .ensures .0)) in
+    let d = getD-default (now (k .args .grid)) (h .side-in .result) 0 CB-FILLED (omega (arith, h .side-in .ensures .1, k .pre .cells)) in
+    simp (c .put .ensures, fx, fy)
+    (gone-there (now (k .args .grid)) (k .args .e) (k .args .vx) (k .args .vy) _ p (eq-eqb _ _ (sym d ∙ c .before .if1 .taken)))
 
 returns-2 : tie.Need-returns-2
 returns-2 c =
-    let k = c .before .before .before .before in
+    let h = c .before .before in
+    let v = h .before in
+    let k = v .before .before in
     let fx = toZ-ofZ (k .fits .vx) in
     let fy = toZ-ofZ (k .fits .vy) in
-    let p = simp (c .before .before .before .cell-of .ensures, fx, fy) at (c .before .before .diagonal-of .ensures) in
+    let p = simp (v .before .cell-of .ensures, fx, fy) at (h .side-in .ensures .0 ∙ ap (sideOf _) (v .vertical-in .ensures .0)) in
+    let d = getD-default (now (k .args .grid)) (h .side-in .result) 0 CB-FILLED (omega (arith, h .side-in .ensures .1, k .pre .cells)) in
     simp (fx, fy)
-    (gone-not (now (k .args .grid)) (k .args .e) (k .args .vx) (k .args .vy) _ p (sym (c .before .black-at .ensures) ∙ c .if1 .left))
+    (gone-not (now (k .args .grid)) (k .args .e) (k .args .vx) (k .args .vy) _ p (ne-eqb _ _ (λ q. c .if1 .left (d ∙ q))))
 
 pub go-spec : {M : Type 1} → statement M
 go-spec =
     tie.close
     (tie.spec
     cell-of-requires
-    diagonal-of-requires
-    black-at-requires
-    cast-t9
-    cast-t11
+    vertical-in-requires
+    side-in-requires
+    element-copy-out-if1
+    put-requires
     returns
     returns-2)
