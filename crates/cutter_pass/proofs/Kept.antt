@@ -7,6 +7,7 @@ use lib.Dec.{ltb}
 use borrow.Author.Tests.{lt-ltb}
 use Rattle.laws.proofs.Choice.{cond-both}
 use Rattle.cutter_state.specs.declared.Cutter.{Cutter}
+use Rattle.cutter_state.specs.Change.{withWon}
 use Rattle.cutter_state.specs.WellFormed.{WellFormed}
 use Rattle.cutter_rules.specs.Step.{stepped}
 use Rattle.cutter_rules.specs.Tick.{enemiesStepped}
@@ -16,6 +17,20 @@ use Rattle.cutter_keeps.proofs.Changes.{kept-self, kept-lives, kept-dead, kept-
 use Rattle.cutter_keeps.proofs.Tick.{tick-kept}
 use Rattle.cutter_keeps.proofs.Accounts.{step-accounts}
 use Rattle.cutter_pass.specs.Pass.{CLEAR-BELOW, hurt, scored, moved}
+
+-- a life less is never below 0; black at 465 does not win, and 464 does
+module _ (c : Cutter) where
+  pub no-lives : c .lives ≡ 0 → hurt c .lives ≡ 0
+  unfolding hurt
+  no-lives e = rw e
+
+  pub black-465 : blackIn c ≡ 465 → scored c ≡ c
+  unfolding scored
+  black-465 e = rw e
+
+  pub black-464 : blackIn c ≡ 464 → scored c ≡ withWon c true
+  unfolding scored
+  black-464 e = rw e
 
 pub accounts-kept : {b c s : Cutter} {m n : ℕ} → Accounts b c m n → Kept c s → Accounts b s m n
 accounts-kept j k = record { formed = k .formed; claimed = omega (arith, k .claimed, j .claimed); creatures = omega (arith, k .creatures, j .creatures) }

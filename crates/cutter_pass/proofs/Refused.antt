@@ -1,14 +1,14 @@
 -- What a pass that isn't refused tells of its state and its draws. Assumes nothing.
 use mathlib.Core.Bool.{Bool, true, false, cond, not}
-use mathlib.Core.List.{List}
+use mathlib.Core.List.{List, _∷_}
 use mathlib.Core.Path.{_≡_, sym, _∙_, ap}
 use Prim.Native.Nat.{ℕ, _+_}
 use native.Mathlib.Omega.{arith}
 use lib.Dec.{eqb}
 use lib.ListN.{length}
-use borrow.Author.Tests.{eqb-false, not-true}
+use borrow.Author.Tests.{eqb-false, ne-eqb, not-true}
 use Rattle.refusal.specs.Refusal.{NONE, DRAWS, LAST-LEVEL, unless}
-use Rattle.refusal.proofs.Calls.{then-none, unless-none}
+use Rattle.refusal.proofs.Calls.{then-second, then-none, unless-none}
 use Rattle.cutter_state.specs.declared.Cutter.{Cutter}
 use Rattle.cutter_state.specs.WellFormed.{MAX-LEVEL, refusalOf, WellFormed}
 use Rattle.cutter_state.proofs.Facts.{accepted}
@@ -23,6 +23,11 @@ due-level c d w = rw (d, w)
 pub last-level : (c : Cutter) (draws : List ℕ) → c .level ≡ MAX-LEVEL → levelRefusal c draws ≡ LAST-LEVEL
 unfolding levelRefusal
 last-level c draws e = rw e
+
+-- any draws in other passes are refused
+pub draws-unasked : (c : Cutter) (d : ℕ) (ds : List ℕ) → refusalOf c ≡ NONE → levelDue c ≡ false → passRefusal c (d ∷ ds) ≡ DRAWS
+unfolding passRefusal
+draws-unasked c d ds e q = then-second (refusalOf c) _ e ∙ simp (q, ne-eqb (length (d ∷ ds)) 0 (λ (z : length (d ∷ ds) ≡ 0). omega (arith, z)))
 
 module _ (c : Cutter) (draws : List ℕ) (e : passRefusal c draws ≡ NONE) where
   abbrev rest : Bool → ℕ

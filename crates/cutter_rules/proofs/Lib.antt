@@ -1,3 +1,4 @@
+pub mod Alike
 pub mod Apart
 pub mod Cases
 pub mod Draws

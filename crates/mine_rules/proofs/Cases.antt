@@ -6,15 +6,23 @@ use Rattle.mine_rules.specs.Ways.{nextCell}
 use Rattle.mine_rules.specs.Move.{pushed, met, moved}
 use Rattle.mine_rules.specs.Gravity.{carried, rested, without, overPlayer, overCreature, overEmpty, rolled, overOther, cellFall, rowFall, gravityOf}
 use Rattle.mine_rules.specs.Tick.{wayOf, tickOne, ticked}
-use Rattle.mine_rules.specs.Cases.{P4, P5, P6, Sides, Rest, P7, Push, Exit, P8, Turns, Catch}
+use Rattle.mine_rules.specs.Cases.{P4, CoinFalls, P5, Taken, P6, Sides, Rest, P7, Push, Exit, Beyond, P8, Turns, Catch}
 
 pub p4 : P4
 unfolding wellFormed cellsOk creaturesOk numbersOk emptyAt freeAt carried rested without overPlayer overCreature overEmpty rolled overOther cellFall rowFall gravityOf
 p4 = record { right = refl; marked = refl; unmarked = refl }
 
+pub coin-falls : CoinFalls
+unfolding wellFormed cellsOk creaturesOk numbersOk emptyAt freeAt carried rested without overPlayer overCreature overEmpty rolled overOther cellFall rowFall gravityOf
+coin-falls = record { right = refl; marked = refl }
+
 pub p5 : P5
 unfolding wellFormed cellsOk creaturesOk numbersOk emptyAt freeAt carried rested without overPlayer overCreature overEmpty rolled overOther cellFall rowFall gravityOf
 p5 = record { right = refl; ends = refl }
+
+pub taken : Taken
+unfolding wellFormed cellsOk creaturesOk numbersOk emptyAt freeAt carried rested without overPlayer overCreature overEmpty rolled overOther cellFall rowFall gravityOf
+taken = record { right = refl; stays = refl }
 
 pub p6 : P6
 unfolding wellFormed cellsOk creaturesOk numbersOk emptyAt freeAt carried rested without overPlayer overCreature overEmpty rolled overOther cellFall rowFall gravityOf
@@ -34,11 +42,15 @@ p7 = record { right = refl; stays = refl }
 
 pub push : Push
 unfolding wellFormed cellsOk creaturesOk numbersOk emptyAt freeAt nextCell pushed met moved
-push = record { right = refl; stays = refl }
+push = record { right = refl; stays = refl; upward = refl }
 
 pub exit : Exit
 unfolding wellFormed cellsOk creaturesOk numbersOk emptyAt nextCell met moved
 exit = record { right = refl; short = refl; reached = refl }
+
+pub beyond : Beyond
+unfolding wellFormed cellsOk creaturesOk numbersOk emptyAt freeAt nextCell pushed met moved
+beyond = record { right = refl; stays = refl }
 
 pub p8 : P8
 unfolding wellFormed cellsOk creaturesOk numbersOk emptyAt freeAt carried rested without overPlayer overCreature overEmpty rolled overOther cellFall rowFall gravityOf

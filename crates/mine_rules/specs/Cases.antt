@@ -48,6 +48,11 @@ pub record P4 : Type 0 where
   pub marked : gravityOf (withMark (above BOULDER) 5 5) ≡ killed (above BOULDER)
   pub unmarked : gravityOf (above BOULDER) ≡ above BOULDER
 
+-- marked coin over the player: collected, and vanishes
+pub record CoinFalls : Type 0 where
+  pub right : wellFormed (above COIN) ≡ true
+  pub marked : gravityOf (withMark (above COIN) 5 5) ≡ withCoins (above EMPTY) 1
+
 -- boulder (5,5) on boulder (5,6), wall under that and at (4,5), (6,5) to (6,6) empty, wall (6,7)
 abbrev pub toRight : Mine
 toRight = withCell (withCell (withCell (withCell (withCell bare 5 5 BOULDER) 5 6 BOULDER) 5 7 WALL) 4 5 WALL) 6 7 WALL
@@ -56,6 +61,11 @@ toRight = withCell (withCell (withCell (withCell (withCell bare 5 5 BOULDER) 5 6
 pub record P5 : Type 0 where
   pub right : wellFormed toRight ≡ true
   pub ends : gravityOf toRight ≡ withMark (withCell (withCell toRight 5 5 EMPTY) 6 6 BOULDER) 6 6
+
+-- with (6,6) taken it stays
+pub record Taken : Type 0 where
+  pub right : wellFormed (withCell toRight 6 6 WALL) ≡ true
+  pub stays : gravityOf (withCell toRight 6 6 WALL) ≡ withCell toRight 6 6 WALL
 
 -- mirrored to the left
 abbrev pub toLeft : Mine
@@ -96,10 +106,11 @@ pub record P7 : Type 0 where
 abbrev pub boulderBeside : Mine
 boulderBeside = withMark (withPlayer (withCell bare 5 5 BOULDER) 4 5) 5 5
 
--- pushed: the mark stays where it was
+-- pushed: the mark stays where it was; upward, nothing
 pub record Push : Type 0 where
   pub right : wellFormed boulderBeside ≡ true
   pub stays : moved boulderBeside RIGHT ≡ withMark (withPlayer (withCell bare 6 5 BOULDER) 5 5) 5 5
+  pub upward : moved (above BOULDER) UP ≡ above BOULDER
 
 -- an exit at (5,5) beside the player, who needs one coin
 abbrev pub exitBeside : ℕ → Mine
@@ -113,6 +124,14 @@ pub record Exit : Type 0 where
 
 abbrev pub creature : ℕ → ℕ → ℕ → Enemy
 creature x y d = record { x = x; y = y; dir = d }
+
+-- a creature beyond the boulder: not pushed
+abbrev pub creatureBeyond : Mine
+creatureBeyond = withCreatures boulderBeside (creature 6 5 LEFT ∷ replicate 7 blankSlot) 1
+
+pub record Beyond : Type 0 where
+  pub right : wellFormed creatureBeyond ≡ true
+  pub stays : moved creatureBeyond RIGHT ≡ creatureBeyond
 
 -- a marked boulder at (5,5) over the first of three creatures
 abbrev pub creatureA : Enemy
