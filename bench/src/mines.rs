@@ -6,6 +6,7 @@ use oracle::games::{cutter, mine::Held};
 use oracle::stand_ins::catcard_app::screen::FRAME;
 use oracle::state::{Cutter, Mine, Pace};
 
+use crate::ours::Parts;
 use crate::table::{Aim, Table};
 use crate::{KEYS, LATE, ours, states};
 
@@ -28,11 +29,34 @@ pub fn rows(table: &Table) {
     };
     rule("gravity, loaded", &states::loaded(), Held::gravity, ours::mine_gravity);
     rule("gravity, busy", &states::busy(), Held::gravity, ours::mine_gravity);
-    rule("Mine creature tick, 2", &states::tunnels(2), Held::move_enemies, ours::mine_tick);
-    rule("Mine creature tick, 8", &states::tunnels(8), Held::move_enemies, ours::mine_tick);
+    for n in [2, 8] {
+        let what = format!("Mine creature tick, {n}");
+        let states = states::tunnels(n);
+        let rust = |g: &mut Held| g.move_enemies();
+        in_place(table, &what, &states, rust, ours::mine_tick_on);
+        by_value(table, &what, copies, &states, rust, ours::mine_tick);
+    }
     picture(table);
     pass(table, "Mine pass, both ticks, loaded", &states::loaded());
     pass(table, "Mine pass, both ticks, 8 creatures in tunnels", &states::tunnels(8));
+}
+
+fn in_place(table: &Table, what: &str, states: &[Mine], rust: fn(&mut Held), ours: fn(&mut Parts)) {
+    let held = (Held::of, |_: &Mine, g: &mut Held| rust(g), Held::state);
+    let parts = (Parts::of, |_: &Mine, p: &mut Parts| ours(p), Parts::whole);
+    table.in_parts(what, Aim::Times(1.0), states, held, parts);
+}
+
+fn by_value(
+    table: &Table,
+    what: &str,
+    copies: f64,
+    states: &[Mine],
+    rust: fn(&mut Held),
+    ours: fn(&Mine, &mut Mine),
+) {
+    let what = format!("{what}, by value");
+    table.rule(&what, Aim::More(copies), states, Held::of, |_, g| rust(g), Held::state, ours);
 }
 
 /// The copies of a state in and out, in nanoseconds.

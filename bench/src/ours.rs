@@ -1,6 +1,6 @@
 //! The port's functions, by the pointers of `calls.c`.
 
-use oracle::state::{Cutter, Mine};
+use oracle::state::{CELLS, Cutter, ENEMIES, Enemy, Mine};
 
 /// The ground report.
 #[repr(C)]
@@ -38,6 +38,43 @@ calls! {
     cutter_respawn: by_rule_cutter_respawn(c: &Cutter, out: &mut Cutter);
     cutter_walk: by_rule_cutter_walk(c: &Cutter) -> usize;
     cutter_ground: by_call_cutter_ground(c: &Cutter) -> Ground;
+}
+
+/// A mine whose creatures are taken apart, as the port's rules in place take them.
+#[derive(Clone)]
+pub struct Parts {
+    pub mine: Mine,
+    pub xs: [usize; ENEMIES],
+    pub ys: [usize; ENEMIES],
+    pub dirs: [u8; ENEMIES],
+}
+
+impl Parts {
+    pub fn of(m: &Mine) -> Self {
+        let (xs, ys) = (m.enemies.map(|e| e.x), m.enemies.map(|e| e.y));
+        Parts { mine: m.clone(), xs, ys, dirs: m.enemies.map(|e| e.dir) }
+    }
+
+    pub fn whole(&self) -> Mine {
+        let enemy = |i| Enemy { x: self.xs[i], y: self.ys[i], dir: self.dirs[i] };
+        Mine { enemies: std::array::from_fn(enemy), ..self.mine.clone() }
+    }
+}
+
+unsafe extern "C" {
+    safe fn rule_mine_tick_on(
+        grid: &[u8; CELLS],
+        xs: &mut [usize; ENEMIES],
+        ys: &mut [usize; ENEMIES],
+        dirs: &mut [u8; ENEMIES],
+        count: usize,
+        px: usize,
+        py: usize,
+    ) -> bool;
+}
+
+pub fn mine_tick_on(Parts { mine: m, xs, ys, dirs }: &mut Parts) {
+    m.dead |= rule_mine_tick_on(&m.grid, xs, ys, dirs, m.count, m.px, m.py);
 }
 
 unsafe extern "C" {

@@ -75,12 +75,24 @@ impl Table {
         after: impl Fn(&G) -> T,
         ours: impl Fn(&S, &mut T),
     ) {
-        let own = |s: &S| after(&hold(s));
+        self.in_parts(what, aim, states, (hold, rust, after), (T::clone, ours, T::clone));
+    }
+
+    /// The same, ours on what a state is taken apart into and put together from, outside the time.
+    pub fn in_parts<S, G, O, T: PartialEq + Debug>(
+        &self,
+        what: &str,
+        aim: Aim,
+        states: &[S],
+        (hold, rust, after): (impl Fn(&S) -> G, impl Fn(&S, &mut G), impl Fn(&G) -> T),
+        (apart, ours, whole): (impl Fn(&T) -> O, impl Fn(&S, &mut O), impl Fn(&O) -> T),
+    ) {
+        let own = |s: &S| apart(&after(&hold(s)));
         for s in states {
             let (mut held, mut owned) = (hold(s), own(s));
             rust(s, &mut held);
             ours(s, &mut owned);
-            assert_eq!(after(&held), owned, "{what}");
+            assert_eq!(after(&held), whole(&owned), "{what}");
         }
         self.row(what, self.0.both(states, (&hold, rust), (own, ours)), aim);
     }

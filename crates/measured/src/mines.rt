@@ -1,4 +1,6 @@
 // Block Mine.
+use mine_state::AREA;
+use mine_state::MAX_ENEMIES;
 use mine_state::Mine;
 use refusal::Refusal;
 ghost use mathlib.Core.Path.{_≡_};
@@ -8,6 +10,7 @@ ghost use Rattle.mine_rules.specs.Load.{loaded};
 ghost use Rattle.mine_rules.specs.Move.{moved};
 ghost use Rattle.mine_rules.specs.Tick.{ticked};
 ghost use Rattle.mine_rules.specs.Gravity.{gravityOf};
+ghost use Rattle.mine_moves.specs.Steps.{Walkers, Ticked};
 ghost use Rattle.mine_picture.specs.Picture.{Drawable, mineLit};
 
 // The copies of a state in and out, and nothing else.
@@ -54,6 +57,22 @@ pub extern "C" fn rule_mine_tick(m: Mine) -> Mine
     ensures { λ r. ⌜ r ≡ ticked m ⌝ }
 {
     mine_moves::move_enemies(m)
+}
+
+#[no_mangle]
+pub extern "C" fn rule_mine_tick_on(
+    grid: &[u8; AREA],
+    xs: &mut [usize; MAX_ENEMIES],
+    ys: &mut [usize; MAX_ENEMIES],
+    dirs: &mut [u8; MAX_ENEMIES],
+    count: usize,
+    px: usize,
+    py: usize,
+) -> bool
+    requires { ⌜ Walkers (now grid) (now xs) (now ys) (now dirs) count ⌝ }
+    ensures { λ r. ⌜ Ticked (now (grid .entry)) count px py (now (xs .entry)) (now (ys .entry)) (now (dirs .entry)) r (now (xs .exit)) (now (ys .exit)) (now (dirs .exit)) ⌝ }
+{
+    mine_moves::tick_on(grid, xs, ys, dirs, count, px, py)
 }
 
 #[no_mangle]

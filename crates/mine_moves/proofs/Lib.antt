@@ -1,3 +1,4 @@
 pub mod Turns
+pub mod Ahead
 pub mod Reading
 pub mod Applied

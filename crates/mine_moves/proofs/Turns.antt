@@ -5,44 +5,48 @@ use mathlib.Core.Path.{_≡_, refl, sym, _∙_, ap, subst}
 use Prim.Native.Nat.{ℕ, _+_, _-_, _%_, _<_, _≤_}
 use native.Mathlib.Omega.{arith}
 use lib.Dec.{eqb, leb}
-use lib.ListN.{length, getD, drop, set, length-set}
+use lib.ListN.{length, getD, take, drop, set, length-set}
 use borrow.Author.Tests.{eq-eqb, ne-eqb, lt-ltb, le-leb, leb-true}
 use Rattle.laws.specs.Lists.{all, across}
 use Rattle.laws.proofs.Choice.{cond-both}
 use Rattle.laws.proofs.Lists.{drop-one, all-at, all-set}
 use Rattle.laws.proofs.Folds.{across-turn, across-end}
-use Rattle.found.specs.First.{nobody}
+use Rattle.found.specs.First.{first, nobody}
 use Rattle.found.specs.declared.Found.the-variants.{At, Nobody}
 use Rattle.mine_state.specs.declared.Mine.{Mine}
 use Rattle.mine_state.specs.declared.Enemy.{Enemy}
-use Rattle.mine_state.specs.State.{W, H, MAX-ENEMIES, EMPTY, place, codeIn, emptyAt, firstAt, playerAt, blankSlot}
+use Rattle.mine_state.specs.State.{W, H, MAX-ENEMIES, EMPTY, codeIn, emptyAt, standsAt, firstAt, playerAt, blankSlot}
 use Rattle.mine_state.specs.Change.{withCreature, killed}
-use Rattle.mine_state.specs.Spots.{onMap, firstSpot, spotsFrom, Spotted}
-use Rattle.mine_state.specs.WellFormed.{Sound}
+use Rattle.mine_state.specs.Spots.{onMap, allOnMap}
 use Rattle.mine_state.proofs.Cells.{code-empty}
-use Rattle.mine_state.proofs.Places.{first-spot, spots-set, length-spots, map-inside}
+use Rattle.mine_state.proofs.Places.{map-inside, slot-on-map}
 use Rattle.mine_rules.specs.declared.Ahead.{Ahead}
 use Rattle.mine_rules.specs.declared.Ahead.the-variants.{Cell, Off}
 use Rattle.mine_rules.specs.declared.Step.{Step}
 use Rattle.mine_rules.specs.declared.Step.the-variants.{Goes, Stays}
 use Rattle.mine_rules.specs.Ways.{nextCell, OnGrid}
 use Rattle.mine_rules.specs.Tick.{goesTo, wayOf, turns, orElse, chosen, stepped, tickOne, ticked}
-use Rattle.mine_rules.proofs.GravitySound.{sound-killed}
 use Rattle.mine_rules.proofs.Next.{next-inside}
+use Rattle.mine_apart.specs.Apart.{joined, Apart}
+use Rattle.mine_apart.proofs.Joined.{joined-at, joined-set}
+use Rattle.mine_moves.specs.Steps.{standing, deadIf}
 
 -- the cell ahead, as the code asks for it
-module _ {m : Mine} {g spots : List ℕ} (same : m .grid ≡ g) (s : Spotted m spots) (d x y : ℕ) (on : OnGrid x y) where
+module _ (m : Mine) {g : List ℕ} {es : List Enemy} {n : ℕ} (same : m .grid ≡ g) (them : m .enemies ≡ es) (many : m .count ≡ n) (d x y : ℕ) (on : OnGrid x y) where
+  seen : firstAt m x y ≡ first (standsAt x y) (take n es)
+  seen = ap (λ (k : ℕ). first (standsAt x y) (take k (m .enemies))) many ∙ ap (λ (l : List Enemy). first (standsAt x y) (take n l)) them
+
   empty-there : emptyAt (m .grid) x y ≡ eqb (codeIn g x y) EMPTY
   empty-there = code-empty (m .grid) x y (on .across) (on .down) ∙ ap (λ (l : List ℕ). eqb (codeIn l x y) EMPTY) same
 
   pub goes-blocked : (codeIn g x y ≡ EMPTY → ⊥) → Stays ≡ goesTo m d (Cell x y)
   goes-blocked n = simp (empty-there ∙ ne-eqb (codeIn g x y) EMPTY n)
 
-  pub goes-met : {i : ℕ} → codeIn g x y ≡ EMPTY → firstSpot (place x y) spots ≡ At i → Stays ≡ goesTo m d (Cell x y)
-  goes-met e f = simp (empty-there ∙ eq-eqb (codeIn g x y) EMPTY e, sym (first-spot s x y (on .across) (on .down)) ∙ f)
+  pub goes-met : {i : ℕ} → codeIn g x y ≡ EMPTY → first (standsAt x y) (take n es) ≡ At i → Stays ≡ goesTo m d (Cell x y)
+  goes-met e f = simp (empty-there ∙ eq-eqb (codeIn g x y) EMPTY e, seen ∙ f)
 
-  pub goes-open : codeIn g x y ≡ EMPTY → firstSpot (place x y) spots ≡ Nobody → Goes (record { x = x; y = y; dir = d }) ≡ goesTo m d (Cell x y)
-  goes-open e f = simp (empty-there ∙ eq-eqb (codeIn g x y) EMPTY e, sym (first-spot s x y (on .across) (on .down)) ∙ f)
+  pub goes-open : codeIn g x y ≡ EMPTY → first (standsAt x y) (take n es) ≡ Nobody → Goes (record { x = x; y = y; dir = d }) ≡ goesTo m d (Cell x y)
+  goes-open e f = simp (empty-there ∙ eq-eqb (codeIn g x y) EMPTY e, seen ∙ f)
 
 -- the turns in order, one at a time
 module _ (m : Mine) (e : Enemy) (i : ℕ) (h : i < 4) {R : Step} where
@@ -89,72 +93,79 @@ chosen-on-map m e to h q =
     let i = map-inside e h in
     subst OnMap q (chosen-kept m e turns (record { across = i .0; down = i .1 }))
 
--- one creature changed: what is sound stays so
-sound-creature : (m : Mine) (i : ℕ) (e : Enemy) → onMap e ≡ true → Sound m → Sound (withCreature m i e)
-sound-creature m i e h s =
-    record {
-      cells = s .cells;
-      marks = s .marks;
-      slots = simp length-set (s .slots);
-      few = s .few;
-      placed = all-set onMap (m .enemies) i e (s .placed) h;
-      home = s .home;
-      coins = s .coins;
-    }
+-- a state, where it doesn't matter which
+abbrev nothing : Mine
+nothing = record { grid = []; falling = []; px = 0; py = 0; enemies = []; count = 0; coins = 0; needed = 0; dead = false; won = false }
 
--- The loop over the creatures: the state so far is sound, the places tell where the creatures stand, and what is left to do gives R.
-pub record During (R : Mine) (spots : List ℕ) (n i : ℕ) (s : Mine) : Type 0 where
-  pub sound : Sound s
-  pub them : spots ≡ spotsFrom (s .count) (s .enemies)
-  pub all : s .count ≡ n
-  pub same : across tickOne (n - i) i s ≡ R
+-- The loop over the creatures, in place: the state so far, whatever else it holds.
+abbrev soFar : List ℕ → ℕ → ℕ → ℕ → List ℕ → List ℕ → List ℕ → Bool → Mine → Mine
+soFar g n px py xs ys ds b m = deadIf b (standing m g (joined xs ys ds) n px py)
 
--- the state so far, of which a tick changes these parts
-abbrev pub ongoing : Mine → List Enemy → Bool → Mine
-ongoing m es b = record { grid = m .grid; falling = m .falling; px = m .px; py = m .py; enemies = es; count = m .count; coins = m .coins; needed = m .needed; dead = b; won = m .won }
+-- The creatures are on the map, and what is left to do gives R.
+pub record Between (g : List ℕ) (n px py : ℕ) (R : Mine → Mine) (xs ys ds : List ℕ) (b : Bool) (i : ℕ) : Type 0 where
+  pub parts : Apart xs ys ds
+  pub placed : allOnMap (joined xs ys ds) ≡ true
+  pub same : (m : Mine) → across tickOne (n - i) i (soFar g n px py xs ys ds b m) ≡ R m
 
-pub begins : (m : Mine) (spots : List ℕ) → Sound m → spots ≡ spotsFrom (m .count) (m .enemies) → During (ticked m) spots (m .count) 0 m
+pub begins : (g : List ℕ) (n px py : ℕ) (xs ys ds : List ℕ) → Apart xs ys ds → allOnMap (joined xs ys ds) ≡ true → Between g n px py (λ m. ticked (standing m g (joined xs ys ds) n px py)) xs ys ds false 0
 unfolding ticked
-begins m spots s e = record { sound = s; them = e; all = refl; same = ap (λ (k : ℕ). across tickOne k 0 m) (let q : m .count - 0 ≡ m .count = omega arith in q) }
+begins g n px py xs ys ds a p =
+    let q : n - 0 ≡ n = omega arith in
+    record { parts = a; placed = p; same = λ m. ap (λ (k : ℕ). across tickOne k 0 (standing m g (joined xs ys ds) n px py)) q }
 
-pub ends : {R : Mine} {spots : List ℕ} (n i : ℕ) (s : Mine) → n ≤ i → During R spots n i s → s ≡ R
-ends n i s h d = across-end tickOne n i s h (d .same)
+module _ {g : List ℕ} {n px py : ℕ} {R : Mine → Mine} {xs ys ds : List ℕ} {b : Bool} (i : ℕ) (d : Between g n px py R xs ys ds b i) where
+  abbrev pub state : Mine → Mine
+  state m = soFar g n px py xs ys ds b m
 
-pub spots-long : {R : Mine} {spots : List ℕ} {n i : ℕ} {s : Mine} → During R spots n i s → length spots ≡ MAX-ENEMIES
-spots-long {s = s} d = ap length (d .them) ∙ length-spots (s .count) (s .enemies) ∙ d .sound .slots
+  pub ends : n ≤ i → (m : Mine) → R m ≡ state m
+  ends h m = sym (across-end tickOne n i (state m) h (d .same m))
 
-pub spotted : {R : Mine} {spots : List ℕ} {n i : ℕ} {s : Mine} → During R spots n i s → Spotted s spots
-spotted d = record { placed = d .sound .placed; them = d .them }
+  -- the creature whose turn it is
+  abbrev pub here : Enemy
+  here = record { x = getD xs i 0; y = getD ys i 0; dir = getD ds i 0 }
 
-module _ {R : Mine} {spots : List ℕ} (n i : ℕ) (s : Mine) (h : i < n) (d : During R spots n i s) where
-  abbrev here : Enemy
-  here = getD (s .enemies) i blankSlot
+  long : length ys ≡ length xs
+  long = d .parts .down ∙ sym (d .parts .across)
 
-  pub stays : chosen s here turns ≡ Stays → During R spots n (i + 1) s
+  wide : length ds ≡ length xs
+  wide = d .parts .ways ∙ sym (d .parts .across)
+
+  pub here-on-map : onMap here ≡ true
+  here-on-map = subst (λ (e : Enemy). onMap e ≡ true) (joined-at xs ys ds i long wide) (slot-on-map (joined xs ys ds) i (d .placed))
+
+  turn : (m : Mine) → tickOne (state m) i ≡ stepped (state m) i (chosen (state m) here turns)
   unfolding tickOne
-  stays q =
-      record { sound = d .sound; them = d .them; all = d .all; same = across-turn tickOne n i s s h (ap (stepped s i) q) (d .same) }
+  turn m = ap (λ (e : Enemy). stepped (state m) i (chosen (state m) e turns)) (joined-at xs ys ds i long wide)
 
-  module _ (to : Enemy) (q : chosen s here turns ≡ Goes to) (on : onMap to ≡ true) where
-    went : spotsFrom (s .count) (set (s .enemies) i to) ≡ set spots i (place (to .x) (to .y))
-    went = spots-set (s .count) (s .enemies) i to (omega (arith, d .all)) ∙ ap (λ (l : List ℕ). set l i (place (to .x) (to .y))) (sym (d .them))
+  module _ (h : i < n) where
+    pub stays : ((m : Mine) → chosen (state m) here turns ≡ Stays) → Between g n px py R xs ys ds b (i + 1)
+    stays q =
+        record { parts = d .parts; placed = d .placed; same = λ m. across-turn tickOne n i (state m) (state m) h (turn m ∙ ap (stepped (state m) i) (q m)) (d .same m) }
 
-    pub catches : playerAt s (to .x) (to .y) ≡ true → During R (set spots i (place (to .x) (to .y))) n (i + 1) (killed (withCreature s i to))
-    unfolding tickOne
-    catches p =
-        record {
-          sound = sound-killed (withCreature s i to) (sound-creature s i to on (d .sound));
-          them = sym went;
-          all = d .all;
-          same = across-turn tickOne n i s (killed (withCreature s i to)) h (ap (stepped s i) q ∙ simp p) (d .same);
-        }
+    module _ (to : Enemy) (q : (m : Mine) → chosen (state m) here turns ≡ Goes to) where
+      laid : Apart (set xs i (to .x)) (set ys i (to .y)) (set ds i (to .dir))
+      laid = record { across = simp length-set (d .parts .across); down = simp length-set (d .parts .down); ways = simp length-set (d .parts .ways) }
 
-    pub walks : playerAt s (to .x) (to .y) ≡ false → During R (set spots i (place (to .x) (to .y))) n (i + 1) (withCreature s i to)
-    unfolding tickOne
-    walks p =
-        record {
-          sound = sound-creature s i to on (d .sound);
-          them = sym went;
-          all = d .all;
-          same = across-turn tickOne n i s (withCreature s i to) h (ap (stepped s i) q ∙ simp p) (d .same);
-        }
+      kept : allOnMap (joined (set xs i (to .x)) (set ys i (to .y)) (set ds i (to .dir))) ≡ true
+      kept =
+          rw (joined-set xs ys ds i to long wide)
+          (all-set onMap (joined xs ys ds) i to (d .placed) (chosen-on-map (state nothing) here to here-on-map (q nothing)))
+
+      moved : (m : Mine) (c : Bool) → withCreature (soFar g n px py xs ys ds c m) i to ≡ soFar g n px py (set xs i (to .x)) (set ys i (to .y)) (set ds i (to .dir)) c m
+      moved m c = ap (λ (es : List Enemy). deadIf c (standing m g es n px py)) (sym (joined-set xs ys ds i to long wide))
+
+      pub walks : (eqb px (to .x) && eqb py (to .y)) ≡ false → Between g n px py R (set xs i (to .x)) (set ys i (to .y)) (set ds i (to .dir)) b (i + 1)
+      walks p =
+          record {
+            parts = laid;
+            placed = kept;
+            same = λ m. across-turn tickOne n i (state m) _ h (turn m ∙ ap (stepped (state m) i) (q m) ∙ simp p (moved m b)) (d .same m);
+          }
+
+      pub catches : (eqb px (to .x) && eqb py (to .y)) ≡ true → Between g n px py R (set xs i (to .x)) (set ys i (to .y)) (set ds i (to .dir)) true (i + 1)
+      catches p =
+          record {
+            parts = laid;
+            placed = kept;
+            same = λ m. across-turn tickOne n i (state m) _ h (turn m ∙ ap (stepped (state m) i) (q m) ∙ simp p (moved m true)) (d .same m);
+          }

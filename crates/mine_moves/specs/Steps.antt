@@ -1,15 +1,18 @@
 -- What the steps of a move and of a creature tick ask, and what a creature's tells. No promise cites it.
-use mathlib.Core.Bool.{true}
+use mathlib.Core.Bool.{Bool, true, cond, _||_}
 use mathlib.Core.List.{List}
 use mathlib.Core.Path.{_≡_}
 use Prim.Native.Nat.{ℕ, _<_, _≤_}
-use lib.ListN.{set}
+use lib.Dec.{eqb}
+use lib.ListN.{length, set}
 use Rattle.mine_state.specs.declared.Mine.{Mine}
 use Rattle.mine_state.specs.declared.Enemy.{Enemy}
-use Rattle.mine_state.specs.State.{AREA, EMPTY, place, emptyAt}
-use Rattle.mine_state.specs.Spots.{onMap, Lent, Spotted, Stand}
+use Rattle.mine_state.specs.State.{AREA, MAX-ENEMIES, EMPTY, place, emptyAt}
+use Rattle.mine_state.specs.Spots.{onMap, allOnMap, Lent, Stand}
 use Rattle.mine_rules.specs.declared.Step.{Step}
-use Rattle.mine_rules.specs.Ways.{OnGrid}
+use Rattle.mine_rules.specs.Ways.{UP, RIGHT, DOWN, OnGrid}
+use Rattle.mine_rules.specs.Tick.{ticked}
+use Rattle.mine_apart.specs.Apart.{joined, Apart, Peopled}
 use Rattle.mine_moves.specs.declared.moves.Move.{Move}
 
 -- the player as it is; its own cell stays empty
@@ -52,10 +55,38 @@ abbrev pub Makes : List ℕ → List ℕ → Move → Move → (Mine → Mine) �
 Makes g spots s r rule = (m : Mine) → Plays m g spots s → applied m r ≡ rule m
 
 -- what a creature's step asks of the lent grid and places
-pub record Walks (g spots : List ℕ) (e : Enemy) : Type 0 where
-  pub lent : Lent g spots
+pub record Walks (g xs ys : List ℕ) (n : ℕ) (e : Enemy) : Type 0 where
+  pub cells : length g ≡ AREA
+  pub people : Peopled xs ys n
   pub placed : onMap e ≡ true
 
--- whatever else a state holds that has the lent grid and whose creatures stand at the lent places: r is the step there
-abbrev pub Tells : List ℕ → List ℕ → Step → (Mine → Step) → Type 0
-Tells g spots r step = (m : Mine) → m .grid ≡ g → Spotted m spots → r ≡ step m
+-- whatever else a state holds that has the lent grid and whose creatures are at the lent places: r is the step there
+abbrev pub Tells : List ℕ → List ℕ → List ℕ → ℕ → Step → (Mine → Step) → Type 0
+Tells g xs ys n r step = (m : Mine) (ds : List ℕ) → length ds ≡ MAX-ENEMIES → m .grid ≡ g → m .enemies ≡ joined xs ys ds → m .count ≡ n → r ≡ step m
+
+-- what a tick asks of the lent grid and creatures
+pub record Walkers (g xs ys ds : List ℕ) (n : ℕ) : Type 0 where
+  pub cells : length g ≡ AREA
+  pub parts : Apart xs ys ds
+  pub few : n ≤ MAX-ENEMIES
+  pub placed : allOnMap (joined xs ys ds) ≡ true
+
+-- the state m with this grid, these creatures and this player's place
+abbrev pub standing : Mine → List ℕ → List Enemy → ℕ → ℕ → ℕ → Mine
+standing m g es n px py = record { grid = g; falling = m .falling; px = px; py = py; enemies = es; count = n; coins = m .coins; needed = m .needed; dead = m .dead; won = m .won }
+
+-- the player is dead besides, where that is so
+abbrev pub deadIf : Bool → Mine → Mine
+deadIf so m = record { grid = m .grid; falling = m .falling; px = m .px; py = m .py; enemies = m .enemies; count = m .count; coins = m .coins; needed = m .needed; dead = so || m .dead; won = m .won }
+
+-- whatever else a state holds that the lent parts make: the tick leaves these creatures, and r tells whether one caught the player
+pub record Ticked (g : List ℕ) (n px py : ℕ) (xs ys ds : List ℕ) (r : Bool) (xs′ ys′ ds′ : List ℕ) : Type 0 where
+  pub parts : Apart xs′ ys′ ds′
+  pub does : (m : Mine) → ticked (standing m g (joined xs ys ds) n px py) ≡ deadIf r (standing m g (joined xs′ ys′ ds′) n px py)
+
+-- one more than what a step in the direction d adds to x, and to y
+abbrev pub rightOf : ℕ → ℕ
+rightOf d = cond (eqb d UP) 1 (cond (eqb d RIGHT) 2 (cond (eqb d DOWN) 1 0))
+
+abbrev pub downOf : ℕ → ℕ
+downOf d = cond (eqb d UP) 0 (cond (eqb d RIGHT) 1 (cond (eqb d DOWN) 2 1))

@@ -7,3 +7,4 @@ mod ways;
 pub use level::load;
 pub use moves::step_player;
 pub use ticks::move_enemies;
+pub use ticks::tick_on;

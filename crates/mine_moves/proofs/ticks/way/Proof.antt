@@ -12,7 +12,7 @@ use Rattle.mine_moves.proofs.ticks.way.Reads as reads
 use Rattle.mine_moves.proofs.ticks.way.Lts as lts
 use Rattle.mine_moves.proofs.ways.next_cell.Reads as next-cell-reads
 use Rattle.mine_state.proofs.at.Reads as at-reads
-use Rattle.mine_state.proofs.enemy_at.Reads as enemy-at-reads
+use Rattle.mine_apart.proofs.enemy_at.Reads as enemy-at-reads
 
 -- what is known once the cell ahead is on the grid
 abbrev Ahead : Type 0
@@ -36,26 +36,20 @@ enum-told c = search needs
 
 returns : tie.Need-returns
 unfolding wayOf
-returns c = λ m g s. simp (sym (c .before .before .next-cell .ensures) ∙ c .enum-told .given .1)
+returns c = λ m ds l g e k. simp (sym (c .before .before .next-cell .ensures) ∙ c .enum-told .given .1)
 
 at-requires : tie.Need-at-requires
 at-requires c κs =
     let b = c .before in
-    record { cells = b .before .before .before .pre .lent .cells; across = there b .across; down = there b .down }
+    record { cells = b .before .before .before .pre .cells; across = there b .across; down = there b .down }
 
 returns-2 : tie.Need-returns-2
 unfolding wayOf
 returns-2 c =
     let b = c .before .before .before in
     let n = b .before .before in
-    λ m g s. simp (sym (n .next-cell .ensures) ∙ b .nx .given .1)
-    (goes-blocked g s (n .before .args .dir) (b .nx .given .0 .0) (b .nx .given .0 .1 .0) (there b) (λ q. c .if1 .taken (c .before .at .ensures ∙ q)))
-
-mul-enemy-at : tie.Need-mul-enemy-at
-mul-enemy-at c = omega (arith, there (c .before .before .before) .down)
-
-add-enemy-at : tie.Need-add-enemy-at
-add-enemy-at c = omega (arith, there (c .before .before .before) .across, there (c .before .before .before) .down)
+    λ m ds l g e k. simp (sym (n .next-cell .ensures) ∙ b .nx .given .1)
+    (goes-blocked m g e k (n .before .args .dir) (b .nx .given .0 .0) (b .nx .given .0 .1 .0) (there b) (λ q. c .if1 .taken (c .before .at .ensures ∙ q)))
 
 enemy-at-requires : tie.Need-enemy-at-requires
 enemy-at-requires c κs = search needs
@@ -69,8 +63,8 @@ returns-3 c =
     let f = c .before .before in
     let b = f .before .before .before .before in
     let n = b .before .before in
-    λ m g s. simp (sym (n .next-cell .ensures) ∙ b .nx .given .1)
-    (goes-met g s (n .before .args .dir) (b .nx .given .0 .0) (b .nx .given .0 .1 .0) (there b) (sym (f .before .before .at .ensures) ∙ f .before .if1 .left) (sym (f .enemy-at .ensures) ∙ c .enum-told2 .given .1))
+    λ m ds l g e k. simp (sym (n .next-cell .ensures) ∙ b .nx .given .1)
+    (goes-met m g e k (n .before .args .dir) (b .nx .given .0 .0) (b .nx .given .0 .1 .0) (there b) (sym (f .before .before .at .ensures) ∙ f .before .if1 .left) (sym (f .enemy-at .ensures ds l) ∙ c .enum-told2 .given .1))
 
 enum-told-3 : tie.Need-enum-told-3
 enum-told-3 c = search needs
@@ -81,8 +75,8 @@ returns-4 c =
     let f = c .before .before in
     let b = f .before .before .before .before in
     let n = b .before .before in
-    λ m g s. simp (sym (n .next-cell .ensures) ∙ b .nx .given .1)
-    (goes-open g s (n .before .args .dir) (b .nx .given .0 .0) (b .nx .given .0 .1 .0) (there b) (sym (f .before .before .at .ensures) ∙ f .before .if1 .left) (sym (f .enemy-at .ensures) ∙ c .enum-told3 .given .1))
+    λ m ds l g e k. simp (sym (n .next-cell .ensures) ∙ b .nx .given .1)
+    (goes-open m g e k (n .before .args .dir) (b .nx .given .0 .0) (b .nx .given .0 .1 .0) (there b) (sym (f .before .before .at .ensures) ∙ f .before .if1 .left) (sym (f .enemy-at .ensures ds l) ∙ c .enum-told3 .given .1))
 
 pub way-spec : {M : Type 1} → statement M
 way-spec =
@@ -94,8 +88,6 @@ way-spec =
     returns
     at-requires
     returns-2
-    mul-enemy-at
-    add-enemy-at
     enemy-at-requires
     enum-told-2
     returns-3

@@ -1,0 +1,48 @@
+-- Creatures taken apart: the numbers of each part in a list of its own. No promise of a public call cites it.
+use mathlib.Core.List.{List, [], _∷_}
+use mathlib.Core.Path.{_≡_}
+use Prim.Native.Nat.{ℕ, _≤_}
+use lib.ListN.{length, take}
+use Rattle.found.specs.First.{first}
+use Rattle.found.specs.declared.Found.{Found}
+use Rattle.mine_state.specs.declared.Enemy.{Enemy}
+use Rattle.mine_state.specs.State.{MAX-ENEMIES, standsAt}
+
+abbrev pub xOf : Enemy → ℕ
+xOf e = e .x
+
+abbrev pub yOf : Enemy → ℕ
+yOf e = e .y
+
+abbrev pub dirOf : Enemy → ℕ
+dirOf e = e .dir
+
+-- the creatures that the lists hold the parts of
+unfoldable pub joined : List ℕ → List ℕ → List ℕ → List Enemy
+joined [] ys ds = []
+joined (x ∷ xs) [] ds = []
+joined (x ∷ xs) (y ∷ ys) [] = []
+joined (x ∷ xs) (y ∷ ys) (d ∷ ds) = record { x = x; y = y; dir = d } ∷ joined xs ys ds
+
+-- the lists have a number for each slot
+pub record Apart (xs ys ds : List ℕ) : Type 0 where
+  pub across : length xs ≡ MAX-ENEMIES
+  pub down : length ys ≡ MAX-ENEMIES
+  pub ways : length ds ≡ MAX-ENEMIES
+
+-- the lent places, of which the first n are creatures'
+pub record Peopled (xs ys : List ℕ) (n : ℕ) : Type 0 where
+  pub across : length xs ≡ MAX-ENEMIES
+  pub down : length ys ≡ MAX-ENEMIES
+  pub few : n ≤ MAX-ENEMIES
+
+-- and of which the first k are looked at
+pub record Looked (xs ys : List ℕ) (k n : ℕ) : Type 0 where
+  pub across : length xs ≡ MAX-ENEMIES
+  pub down : length ys ≡ MAX-ENEMIES
+  pub enough : n ≤ k
+  pub few : k ≤ MAX-ENEMIES
+
+-- whatever their directions, r is the first of the first n of them at (x, y), or nobody
+abbrev pub Sees : List ℕ → List ℕ → ℕ → ℕ → ℕ → Found → Type 0
+Sees xs ys n x y r = (ds : List ℕ) → length ds ≡ MAX-ENEMIES → r ≡ first (standsAt x y) (take n (joined xs ys ds))

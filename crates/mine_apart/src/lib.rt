@@ -1,0 +1,123 @@
+// Block Mine's creatures taken apart into arrays of numbers, which are lent where creatures are not, and who stands where by them.
+use found::Found;
+use mine_state::Enemy;
+use mine_state::MAX_ENEMIES;
+ghost use mathlib.Core.Bool.{cond};
+ghost use mathlib.Core.List.{map};
+ghost use mathlib.Core.Path.{_≡_};
+ghost use lib.Dec.{ltb};
+ghost use Rattle.found.specs.declared.Found.the-variants.{At, Nobody};
+ghost use Rattle.mine_apart.specs.Apart.{xOf, yOf, dirOf, joined, Apart, Peopled, Looked, Sees};
+
+// As many creatures as the level has. A loop over as many slots, or over all, is compiled without a counter.
+const FEW: usize = 2;
+
+pub fn xs_of(enemies: [Enemy; MAX_ENEMIES]) -> [usize; MAX_ENEMIES]
+    ensures { λ r. ⌜ r ≡ map xOf enemies ⌝ }
+{
+    let mut out: [usize; MAX_ENEMIES] = [0; MAX_ENEMIES];
+    let mut i: usize = 0;
+    while i < MAX_ENEMIES {
+        let e = enemies[i];
+        out[i] = e.x;
+        i += 1;
+    }
+    out
+}
+
+pub fn ys_of(enemies: [Enemy; MAX_ENEMIES]) -> [usize; MAX_ENEMIES]
+    ensures { λ r. ⌜ r ≡ map yOf enemies ⌝ }
+{
+    let mut out: [usize; MAX_ENEMIES] = [0; MAX_ENEMIES];
+    let mut i: usize = 0;
+    while i < MAX_ENEMIES {
+        let e = enemies[i];
+        out[i] = e.y;
+        i += 1;
+    }
+    out
+}
+
+pub fn dirs_of(enemies: [Enemy; MAX_ENEMIES]) -> [u8; MAX_ENEMIES]
+    ensures { λ r. ⌜ r ≡ map dirOf enemies ⌝ }
+{
+    let mut out: [u8; MAX_ENEMIES] = [0; MAX_ENEMIES];
+    let mut i: usize = 0;
+    while i < MAX_ENEMIES {
+        let e = enemies[i];
+        out[i] = e.dir;
+        i += 1;
+    }
+    out
+}
+
+// The creatures put together again.
+pub fn enemies_of(
+    xs: &[usize; MAX_ENEMIES],
+    ys: &[usize; MAX_ENEMIES],
+    dirs: &[u8; MAX_ENEMIES],
+) -> [Enemy; MAX_ENEMIES]
+    requires { ⌜ Apart (now xs) (now ys) (now dirs) ⌝ }
+    ensures { λ r. ⌜ r ≡ joined (now (xs .entry)) (now (ys .entry)) (now (dirs .entry)) ⌝ }
+{
+    let mut out: [Enemy; MAX_ENEMIES] = [Enemy { x: 0, y: 0, dir: 0 }; MAX_ENEMIES];
+    let mut i: usize = 0;
+    while i < MAX_ENEMIES {
+        out[i] = Enemy {
+            x: xs[i],
+            y: ys[i],
+            dir: dirs[i],
+        };
+        i += 1;
+    }
+    out
+}
+
+// The slot i, where it is one of the first `count`.
+fn among(i: usize, count: usize) -> Found
+    ensures { λ r. ⌜ r ≡ cond (ltb i count) (At i) Nobody ⌝ }
+{
+    if i < count {
+        return Found::At(i);
+    }
+    Found::Nobody
+}
+
+// The first creature at (x, y) or nobody, where no more than the first n slots hold creatures.
+fn first_of(
+    xs: &[usize; MAX_ENEMIES],
+    ys: &[usize; MAX_ENEMIES],
+    n: usize,
+    count: usize,
+    x: usize,
+    y: usize,
+) -> Found
+    requires { ⌜ Looked (now xs) (now ys) n count ⌝ }
+    ensures { λ r. ⌜ Sees (now (xs .entry)) (now (ys .entry)) count x y r ⌝ }
+{
+    let mut i: usize = 0;
+    while i < n {
+        if (xs[i] == x) & (ys[i] == y) {
+            return among(i, count);
+        }
+        i += 1;
+    }
+    Found::Nobody
+}
+
+// The first creature at (x, y), or nobody.
+pub fn enemy_at(
+    xs: &[usize; MAX_ENEMIES],
+    ys: &[usize; MAX_ENEMIES],
+    count: usize,
+    x: usize,
+    y: usize,
+) -> Found
+    requires { ⌜ Peopled (now xs) (now ys) count ⌝ }
+    ensures { λ r. ⌜ Sees (now (xs .entry)) (now (ys .entry)) count x y r ⌝ }
+{
+    if count <= FEW {
+        return first_of(xs, ys, FEW, count, x, y);
+    }
+    first_of(xs, ys, MAX_ENEMIES, count, x, y)
+}

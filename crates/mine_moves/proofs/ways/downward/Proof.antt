@@ -1,0 +1,23 @@
+use native.Mathlib.Omega.{arith}
+use borrow.Author.Needs.{needs}
+use Rattle.mine_moves.proofs.Ahead.{capped, down-way}
+use Rattle.mine_moves.proofs.ways.downward.Statement.{statement}
+use Rattle.mine_moves.proofs.ways.downward.Tie as tie
+
+least-requires : tie.Need-least-requires
+least-requires c κs = search needs
+
+mul-result : tie.Need-mul-result
+mul-result c = omega (arith, capped (c .before .args .dir) (c .least .ensures))
+
+cast-result : tie.Need-cast-result
+cast-result c = search needs
+
+shr-result : tie.Need-shr-result
+shr-result c = omega (arith, capped (c .before .args .dir) (c .least .ensures))
+
+returns : tie.Need-returns
+returns c = down-way (c .before .args .dir) (c .least .ensures)
+
+pub downward-spec : {M : Type 1} → statement M
+downward-spec = tie.close (tie.spec least-requires mul-result cast-result shr-result returns)
