@@ -10,12 +10,14 @@ use mine_state::Mine;
 use mine_state::W;
 use mine_state::stands_at;
 use refusal::Refusal;
+ghost use mathlib.Core.Bool.{_&&_};
 ghost use mathlib.Core.Path.{_≡_};
 ghost use Prim.Native.Nat.{_≤_, _+_};
+ghost use lib.Dec.{leb};
 ghost use lib.ListN.{length, take, drop};
 ghost use Rattle.laws.specs.Lists.{all, any, count};
 ghost use Rattle.mine_state.specs.State.{AREA, MAX-ENEMIES, emptyAt, standsAt, isCoin, isCode};
-ghost use Rattle.mine_state.specs.WellFormed.{creatureOk, apart, blank, creaturesOk, numbersOk, refusalOf};
+ghost use Rattle.mine_state.specs.WellFormed.{creatureOk, apart, blank, refusalOf};
 ghost use Rattle.mine_check.specs.Passes.{Counted, Part};
 
 // Every cell holds a code from EMPTY to EXIT.
@@ -140,47 +142,47 @@ pub fn coin_count(grid: &[u8; AREA]) -> u16
     n
 }
 
-fn creatures_ok(m: Mine) -> bool
-    ensures { λ r. ⌜ r ≡ creaturesOk m ⌝ }
+fn creatures_ok(grid: &[u8; AREA], enemies: [Enemy; MAX_ENEMIES], n: usize) -> bool
+    requires { ⌜ length (now grid) ≡ AREA ⌝ }
+    ensures { λ r. ⌜ r ≡ (leb n MAX-ENEMIES && all (creatureOk (now (grid .entry))) (take n enemies) && apart (take n enemies) && all blank (drop n enemies)) ⌝ }
 {
-    let n = m.count;
     if MAX_ENEMIES < n {
         return false;
     }
-    let grid = m.grid;
-    let enemies = m.enemies;
-    each_ok(&grid, enemies, n) & all_apart(enemies, n) & rest_blank(enemies, n)
+    each_ok(grid, enemies, n) & all_apart(enemies, n) & rest_blank(enemies, n)
 }
 
 // Coins in hand and on the map, and the coins needed.
-fn numbers_ok(m: Mine) -> bool
-    ensures { λ r. ⌜ r ≡ numbersOk m ⌝ }
+fn numbers_ok(grid: &[u8; AREA], coins: u32, needed: u32) -> bool
+    requires { ⌜ length (now grid) ≡ AREA ⌝ }
+    ensures { λ r. ⌜ r ≡ (leb (coins + count isCoin (now (grid .entry))) AREA && leb 1 needed && leb needed AREA) ⌝ }
 {
-    let grid = m.grid;
-    let hand = m.coins as usize;
-    let needed = m.needed as usize;
+    let hand = coins as usize;
+    let asked = needed as usize;
     if AREA < hand {
         return false;
     }
-    let map = coin_count(&grid) as usize;
-    (hand + map <= AREA) & (1 <= needed) & (needed <= AREA)
+    let map = coin_count(grid) as usize;
+    (hand + map <= AREA) & (1 <= asked) & (asked <= AREA)
 }
 
 // The number of the refusal that a state gets, and NONE.
 pub fn check(m: Mine) -> Refusal
     ensures { λ r. ⌜ r ≡ refusalOf m ⌝ }
 {
+    // One copy of the cells, lent to each part of the check.
     let grid = m.grid;
+    let enemies = m.enemies;
     if !codes_ok(&grid) {
         return refusal::CELLS;
     }
     if !empty_at(&grid, m.px, m.py) {
         return refusal::PLAYER;
     }
-    if !creatures_ok(m) {
+    if !creatures_ok(&grid, enemies, m.count) {
         return refusal::CREATURES;
     }
-    if !numbers_ok(m) {
+    if !numbers_ok(&grid, m.coins, m.needed) {
         return refusal::NUMBERS;
     }
     refusal::NONE

@@ -1,19 +1,15 @@
-use mathlib.Core.Path.{_≡_}
-use lib.ListN.{length}
+use Prim.Native.Nat.{_<_}
+use native.Mathlib.Omega.{arith}
 use borrow.Author.Needs.{needs}
-use borrow.Author.Tests.{eq-eqb, le-leb, lt-leb}
-use Rattle.laws.proofs.Lists.{mapped}
+use borrow.Author.Tests.{le-leb, lt-leb}
 use Rattle.mine_state.specs.State.{MAX-ENEMIES}
-use Rattle.mine_state.specs.WellFormed.{creaturesOk}
 use Rattle.mine_check.proofs.creatures_ok.Statement.{statement}
 use Rattle.mine_check.proofs.creatures_ok.Tie as tie
 
 returns : tie.Need-returns
-unfolding creaturesOk
 returns c =
-    let m = c .before .args .m in
-    let eight : length (m .enemies) ≡ MAX-ENEMIES = search (needs, mapped) in
-    simp (eq-eqb (length (m .enemies)) MAX-ENEMIES eight, lt-leb _ _ (c .if1 .taken))
+    let more : MAX-ENEMIES < c .before .args .n = omega (arith, c .if1 .taken) in
+    simp (lt-leb _ _ more)
 
 each-ok-requires : tie.Need-each-ok-requires
 each-ok-requires c κs = search needs
@@ -25,13 +21,9 @@ rest-blank-requires : tie.Need-rest-blank-requires
 rest-blank-requires c κs = search needs
 
 returns-2 : tie.Need-returns-2
-unfolding creaturesOk
 returns-2 c =
     let a = c .before .before in
-    let k = a .before .before .before .before in
-    let m = k .before .args .m in
-    let eight : length (m .enemies) ≡ MAX-ENEMIES = search (needs, mapped) in
-    simp (eq-eqb (length (m .enemies)) MAX-ENEMIES eight, le-leb _ _ (k .if1 .left), a .each-ok .ensures, c .before .all-apart .ensures, c .rest-blank .ensures)
+    simp (le-leb _ _ (a .before .if1 .left), a .each-ok .ensures, c .before .all-apart .ensures, c .rest-blank .ensures)
 
 pub creatures-ok-spec : {M : Type 1} → statement M
 creatures-ok-spec =
