@@ -18,7 +18,6 @@ use cutter_pass::KEY_LEFT;
 use cutter_pass::KEY_QUIT;
 use cutter_pass::KEY_RIGHT;
 use cutter_pass::KEY_UP;
-use cutter_pass::Played;
 use cutter_rules::DOWN;
 use cutter_rules::LEFT;
 use cutter_rules::RIGHT;
@@ -33,6 +32,7 @@ ghost use mathlib.Core.Path.{_≡_};
 ghost use Prim.Native.Nat.{_-_};
 ghost use Rattle.cutter_state.specs.WellFormed.{WellFormed};
 ghost use Rattle.cutter_rules.specs.Tick.{enemiesStepped};
+ghost use Rattle.cutter_turn.specs.Keys.{isWay, Plays};
 ghost use Rattle.cutter_pass.specs.Pass.{keyed, played, scored, moved, levelDue, passRefusal, hurt, nextLevel, NextLevel, still, afterDeath, afterKeys, passAt};
 
 fn level_due(c: Cutter) -> bool
@@ -93,6 +93,9 @@ fn level_up(c: Cutter, draws: &[u8]) -> Cutter
     new_level(out, draws)
 }
 
+// No key has this number.
+const NO_KEY: u8 = 0;
+
 fn press(c: Cutter, key: u8) -> Cutter
     ensures { λ r. ⌜ r ≡ keyed c key ⌝ }
 {
@@ -105,25 +108,40 @@ fn press(c: Cutter, key: u8) -> Cutter
     }
 }
 
-fn play(c: Cutter, keys: &[u8]) -> Played
-    ensures { λ r. ⌜ r ≡ played c (now (keys .entry)) ⌝ }
+// The last key that gives a direction, NO_KEY for none, and whether a key after it quit.
+pub struct Pressed {
+    pub key: u8,
+    pub quit: bool,
+}
+
+fn is_way(key: u8) -> bool
+    ensures { λ r. ⌜ r ≡ isWay key ⌝ }
 {
-    let mut game = c;
+    (key == KEY_UP) | (key == KEY_DOWN) | (key == KEY_LEFT) | (key == KEY_RIGHT)
+}
+
+// All keys up to one that quits. Each direction replaces the one before, so the last is what is left of them.
+fn play(keys: &[u8]) -> Pressed
+    ensures { λ r. ⌜ Plays (now (keys .entry)) r ⌝ }
+{
+    let mut last = NO_KEY;
     let mut i: usize = 0;
     while i < keys.len() {
         let key = keys[i];
         if key == KEY_QUIT {
-            return Played {
+            return Pressed {
+                key: last,
                 quit: true,
-                game: game,
             };
         }
-        game = press(game, key);
         i += 1;
+        if is_way(key) {
+            last = key;
+        }
     }
-    Played {
+    Pressed {
+        key: last,
         quit: false,
-        game: game,
     }
 }
 
@@ -190,12 +208,13 @@ fn after_keys(c: Cutter, keys: &[u8], time: u32, first: u32, second: u32) -> Cut
     requires { ⌜ WellFormed c ⌝ }
     ensures { λ r. ⌜ r ≡ afterKeys first second time (played c (now (keys .entry))) ⌝ }
 {
-    let played = play(c, keys);
-    if played.quit {
-        return turn(first, second, refusal::NONE, Answer::Quit, played.game);
+    let pressed = play(keys);
+    let played = press(c, pressed.key);
+    if pressed.quit {
+        return turn(first, second, refusal::NONE, Answer::Quit, played);
     }
     let due = both_ticks(time, first, second, CUT_MOVE_CYCLES, CUT_ENEMY_CYCLES);
-    let stepped = step_if(due.one, played.game);
+    let stepped = step_if(due.one, played);
     let game = enemies_if(due.two, stepped);
     turn(due.first, due.second, refusal::NONE, Answer::GoingOn, game)
 }

@@ -1,24 +1,25 @@
--- `cutter_turn::play` meets its contract: what is left of the keys makes of the state what all of them make. Assumes nothing.
-use mathlib.Core.Path.{_≡_, refl}
+-- `cutter_turn::play` meets its contract: one key in place of those that were read. Assumes nothing.
+use mathlib.Core.Path.{sym, _∙_, ap}
 use Prim.Native.Nat.{_≤_, _-_}
 use native.Mathlib.Omega.{arith}
 use borrow.Author.Needs.{needs}
 use lib.ListN.{length, drop, drop-of-length-le}
 use borrow.Author.Tests.{eq-eqb, ne-eqb}
 use Rattle.laws.proofs.Lists.{drop-one}
+use Rattle.cutter_state.specs.declared.Cutter.{Cutter}
 use Rattle.cutter_pass.specs.Pass.{KEY-QUIT, played}
-use Rattle.cutter_turn.proofs.Keys.{keys-more, keys-quit, keys-end}
+use Rattle.cutter_turn.proofs.Keys.{Left, no-key, keys-way, keys-other, keys-quit, keys-end}
 use Rattle.cutter_turn.proofs.play.Statement.{statement}
 use Rattle.cutter_turn.proofs.play.Tie as tie
 
 abbrev Inv-loop : tie.InvT-loop
-Inv-loop keys game₀ i₀ game i = (i ≤ length keys) × (played game (drop i keys) ≡ played game₀ keys)
+Inv-loop keys last₀ i₀ last i = (i ≤ length keys) × Left keys last i
 
 abbrev μ-loop : tie.MeasureT-loop
-μ-loop keys game₀ i₀ game i = length keys - i
+μ-loop keys last₀ i₀ last i = length keys - i
 
 loop-holds : tie.Need-loop-holds Inv-loop μ-loop
-loop-holds c = (omega arith, refl)
+loop-holds c = (omega arith, λ (s : Cutter). ap (λ (d : Cutter). played d _) (no-key s))
 
 shared-slice-read-key : tie.Need-shared-slice-read-key Inv-loop μ-loop
 shared-slice-read-key c = omega arith
@@ -27,30 +28,39 @@ returns : tie.Need-returns Inv-loop μ-loop
 returns c =
     let k = c .before .before .before in
     let keys = k .before .before .args .keys .now in
-    keys-quit (k .loop .game) keys (k .loop .i) (drop-one keys (k .loop .i) 0 (omega arith)) (k .loop .inv .1) (eq-eqb _ KEY-QUIT (c .if1 .taken))
-
-press-requires : tie.Need-press-requires Inv-loop μ-loop
-press-requires c κs = search needs
+    keys-quit keys (k .loop .last) (k .loop .i) (k .loop .inv .1) (drop-one keys (k .loop .i) 0 (omega arith)) (eq-eqb _ KEY-QUIT (c .if1 .taken))
 
 add-i : tie.Need-add-i Inv-loop μ-loop
 add-i c = omega arith
+
+is-way-requires : tie.Need-is-way-requires Inv-loop μ-loop
+is-way-requires c κs = search needs
 
 loop-less : tie.Need-loop-less Inv-loop μ-loop
 loop-less c = omega arith
 
 loop-again : tie.Need-loop-again Inv-loop μ-loop
 loop-again c =
-    let k = c .before .before .before .before in
+    let w = c .before in
+    let k = w .before .before .before .before in
     let keys = k .before .before .args .keys .now in
-    let s = k .loop .game in
-    let more = keys-more s keys (k .loop .i) (drop-one keys (k .loop .i) 0 (omega arith)) (k .loop .inv .1) (ne-eqb _ KEY-QUIT (c .before .if1 .left)) in
-    rw (c .press .ensures) (omega arith, more)
+    (omega arith, keys-way keys (k .loop .last) (k .loop .i) (k .loop .inv .1) (drop-one keys (k .loop .i) 0 (omega arith)) (ne-eqb _ KEY-QUIT (w .before .if1 .left)) (sym (w .«is-way» .ensures) ∙ c .if2 .taken))
+
+loop-less-2 : tie.Need-loop-less-2 Inv-loop μ-loop
+loop-less-2 c = omega arith
+
+loop-again-2 : tie.Need-loop-again-2 Inv-loop μ-loop
+loop-again-2 c =
+    let w = c .before in
+    let k = w .before .before .before .before in
+    let keys = k .before .before .args .keys .now in
+    (omega arith, keys-other keys (k .loop .last) (k .loop .i) (k .loop .inv .1) (drop-one keys (k .loop .i) 0 (omega arith)) (ne-eqb _ KEY-QUIT (w .before .if1 .left)) (sym (w .«is-way» .ensures) ∙ c .if2 .left))
 
 returns-2 : tie.Need-returns-2 Inv-loop μ-loop
 returns-2 c =
     let k = c .before in
     let keys = k .before .before .args .keys .now in
-    keys-end (k .loop .game) keys (k .loop .i) (drop-of-length-le keys {i = k .loop .i} (omega arith)) (k .loop .inv .1)
+    keys-end keys (k .loop .last) (k .loop .i) (k .loop .inv .1) (drop-of-length-le keys {i = k .loop .i} (omega arith))
 
 pub play-spec : {M : Type 1} → statement M
 play-spec =
@@ -61,8 +71,10 @@ play-spec =
     loop-holds
     shared-slice-read-key
     returns
-    press-requires
     add-i
+    is-way-requires
     loop-less
     loop-again
+    loop-less-2
+    loop-again-2
     returns-2)
