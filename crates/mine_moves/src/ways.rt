@@ -1,34 +1,36 @@
 // The cell one step away.
 use mine_rules::Ahead;
-use mine_rules::LEFT;
+use mine_rules::DOWN;
+use mine_rules::RIGHT;
+use mine_rules::UP;
 use mine_state::H;
 use mine_state::W;
-ghost use mathlib.Core.Bool.{cond};
 ghost use mathlib.Core.Path.{_≡_};
-ghost use lib.Dec.{ltb};
 ghost use Rattle.mine_rules.specs.Ways.{nextCell, OnGrid};
 ghost use Rattle.mine_moves.specs.Steps.{rightOf, downOf};
 
-fn least(a: u8, b: u8) -> u8
-    ensures { λ r. ⌜ r ≡ cond (ltb a b) a b ⌝ }
-{
-    if a < b {
-        return a;
-    }
-    b
-}
-
-// One more than what a step adds to x and to y. Two bits for each direction, the first lowest, are looked up without a branch.
+// One more than what a step adds to x.
 fn rightward(dir: u8) -> usize
     ensures { λ r. ⌜ r ≡ rightOf dir ⌝ }
 {
-    (25 >> (2 * least(dir, LEFT))) & 3
+    match dir {
+        UP => 1,
+        RIGHT => 2,
+        DOWN => 1,
+        _ => 0,
+    }
 }
 
+// One more than what a step adds to y.
 fn downward(dir: u8) -> usize
     ensures { λ r. ⌜ r ≡ downOf dir ⌝ }
 {
-    (100 >> (2 * least(dir, LEFT))) & 3
+    match dir {
+        UP => 0,
+        RIGHT => 1,
+        DOWN => 2,
+        _ => 1,
+    }
 }
 
 // One step from (x, y) in the direction dir.
