@@ -47,6 +47,19 @@ NUMBER(Cutter, Ground, call_cutter_ground)
 PICTURE(Mine, rule_mine_picture)
 PICTURE(Cutter, rule_cutter_picture)
 
+typedef struct {
+    usize count;
+    u32 coins;
+    _Bool dead;
+} Fallen;
+
+Fallen rule_mine_gravity_on(u8 *grid, _Bool *falling, usize *xs, usize *ys, u8 *dirs, Fallen s,
+                            usize px, usize py);
+void by_rule_mine_gravity_on(u8 *grid, _Bool *falling, usize *xs, usize *ys, u8 *dirs, Fallen *s,
+                             usize px, usize py) {
+    *s = rule_mine_gravity_on(grid, falling, xs, ys, dirs, *s, px, py);
+}
+
 void *rule_mine_load(Mine *out);
 void by_rule_mine_load(Mine *out) { rule_mine_load(out); }
 

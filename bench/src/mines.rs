@@ -24,11 +24,12 @@ pub fn rows(table: &Table) {
         Held::state,
         |s, out| ours::mine_step(&s.0, s.1, out),
     );
-    let rule = |what: &str, states: &[Mine], rust: fn(&mut Held), ours: fn(&Mine, &mut Mine)| {
-        table.rule(what, Aim::Times(1.0), states, Held::of, |_, g| rust(g), Held::state, ours);
-    };
-    rule("gravity, loaded", &states::loaded(), Held::gravity, ours::mine_gravity);
-    rule("gravity, busy", &states::busy(), Held::gravity, ours::mine_gravity);
+    for (what, states) in [("gravity, loaded", states::loaded()), ("gravity, busy", states::busy())]
+    {
+        let rust = |g: &mut Held| g.gravity();
+        in_place(table, what, &states, rust, ours::mine_gravity_on);
+        by_value(table, what, copies, &states, rust, ours::mine_gravity);
+    }
     for n in [2, 8] {
         let what = format!("Mine creature tick, {n}");
         let states = states::tunnels(n);

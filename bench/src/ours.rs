@@ -61,7 +61,25 @@ impl Parts {
     }
 }
 
+/// What a gravity tick changes beside the arrays.
+#[repr(C)]
+struct Fallen {
+    count: usize,
+    coins: u32,
+    dead: bool,
+}
+
 unsafe extern "C" {
+    safe fn by_rule_mine_gravity_on(
+        grid: &mut [u8; CELLS],
+        falling: &mut [bool; CELLS],
+        xs: &mut [usize; ENEMIES],
+        ys: &mut [usize; ENEMIES],
+        dirs: &mut [u8; ENEMIES],
+        s: &mut Fallen,
+        px: usize,
+        py: usize,
+    );
     safe fn rule_mine_tick_on(
         grid: &[u8; CELLS],
         xs: &mut [usize; ENEMIES],
@@ -71,6 +89,12 @@ unsafe extern "C" {
         px: usize,
         py: usize,
     ) -> bool;
+}
+
+pub fn mine_gravity_on(Parts { mine: m, xs, ys, dirs }: &mut Parts) {
+    let mut s = Fallen { count: m.count, coins: m.coins, dead: m.dead };
+    by_rule_mine_gravity_on(&mut m.grid, &mut m.falling, xs, ys, dirs, &mut s, m.px, m.py);
+    (m.count, m.coins, m.dead) = (s.count, s.coins, s.dead);
 }
 
 pub fn mine_tick_on(Parts { mine: m, xs, ys, dirs }: &mut Parts) {

@@ -1,4 +1,5 @@
 // Block Mine.
+use mine_fall::Fallen;
 use mine_state::AREA;
 use mine_state::MAX_ENEMIES;
 use mine_state::Mine;
@@ -11,6 +12,7 @@ ghost use Rattle.mine_rules.specs.Move.{moved};
 ghost use Rattle.mine_rules.specs.Tick.{ticked};
 ghost use Rattle.mine_rules.specs.Gravity.{gravityOf};
 ghost use Rattle.mine_moves.specs.Steps.{Walkers, Ticked};
+ghost use Rattle.mine_fall.specs.Places.{Falling, Dropped};
 ghost use Rattle.mine_picture.specs.Picture.{Drawable, mineLit};
 
 // The copies of a state in and out, and nothing else.
@@ -49,6 +51,23 @@ pub extern "C" fn rule_mine_gravity(m: Mine) -> Mine
     ensures { λ r. ⌜ r ≡ gravityOf m ⌝ }
 {
     mine_fall::gravity(m)
+}
+
+#[no_mangle]
+pub extern "C" fn rule_mine_gravity_on(
+    grid: &mut [u8; AREA],
+    falling: &mut [bool; AREA],
+    xs: &mut [usize; MAX_ENEMIES],
+    ys: &mut [usize; MAX_ENEMIES],
+    dirs: &mut [u8; MAX_ENEMIES],
+    s: Fallen,
+    px: usize,
+    py: usize,
+) -> Fallen
+    requires { ⌜ Falling (now grid) (now falling) (now xs) (now ys) (now dirs) s px py ⌝ }
+    ensures { λ r. ⌜ Dropped px py (now (grid .entry)) (now (falling .entry)) (now (xs .entry)) (now (ys .entry)) (now (dirs .entry)) s (now (grid .exit)) (now (falling .exit)) (now (xs .exit)) (now (ys .exit)) (now (dirs .exit)) r ⌝ }
+{
+    mine_fall::gravity_on(grid, falling, xs, ys, dirs, s, px, py)
 }
 
 #[no_mangle]

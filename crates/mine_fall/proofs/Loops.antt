@@ -64,3 +64,7 @@ module _ {R : Mine} {spots : List ℕ} where
 
   pub rows-done : (y : ℕ) (s : Mine) → y ≤ 0 → During R (rowsLeft y) spots s → s ≡ R
   rows-done y s h d = down-end rowFall y s h (d .same)
+
+-- what is left to do gives R by way of another state
+pub onwards : {R R′ : Mine} {left : Mine → Mine} {spots : List ℕ} {s : Mine} → R ≡ R′ → During R left spots s → During R′ left spots s
+onwards e d = record { sound = d .sound; them = d .them; same = d .same ∙ e }

@@ -5,7 +5,6 @@ use mathlib.Core.Path.{_≡_}
 use Prim.Native.Nat.{ℕ, _+_, _<_}
 use lib.ListN.{length}
 use Rattle.mine_state.specs.declared.Mine.{Mine}
-use Rattle.mine_state.specs.declared.Enemy.{Enemy}
 use Rattle.mine_state.specs.State.{AREA, MAX-ENEMIES, codeIn, CellOf}
 use Rattle.mine_state.specs.Spots.{freeSpot, Stand}
 use Rattle.mine_state.specs.Change.{withGrid, withMarks, withCoins, killed}
@@ -39,10 +38,6 @@ Quietly g y n = (x : ℕ) → x < n → isObject (codeIn g x y) ≡ false
 -- the state m with the grid g and the marks f
 abbrev pub lent : Mine → List ℕ → List Bool → Mine
 lent m g f = withMarks (withGrid m g) f
-
--- the state m with all that a tick may change
-abbrev pub whole : Mine → List ℕ → List Bool → List Enemy → ℕ → ℕ → Bool → Mine
-whole m g f es n c d = record { grid = g; falling = f; px = m .px; py = m .py; enemies = es; count = n; coins = c; needed = m .needed; dead = d; won = m .won }
 
 -- what an object did beside moving, to the rest of the state
 abbrev pub happened : Fell → Mine → Mine

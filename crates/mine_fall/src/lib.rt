@@ -1,30 +1,33 @@
 // One gravity tick.
 //
 // The grid and the marks are lent to what happens at a cell. Where the creatures and the player stand
-// is told by their places, numbers that are lent too; the creatures themselves stay with `gravity`,
+// is told by their places, numbers that are lent too; the creatures themselves stay with `gravity_on`,
 // and what a fall does beside moving comes back as a `Fell`.
 use found::Found;
+use mine_apart::dirs_of;
+use mine_apart::enemies_of;
+use mine_apart::xs_of;
+use mine_apart::ys_of;
 use mine_state::AREA;
 use mine_state::BOULDER;
 use mine_state::COIN;
 use mine_state::EMPTY;
-use mine_state::Enemy;
 use mine_state::H;
 use mine_state::MAX_ENEMIES;
 use mine_state::Mine;
 use mine_state::W;
 use mine_state::enemy_at;
 use mine_state::free;
-use mine_state::spots_of;
-ghost use mathlib.Core.Bool.{true, false};
+ghost use mathlib.Core.Bool.{true, false, cond};
 ghost use mathlib.Core.Path.{_≡_};
 ghost use Prim.Native.Nat.{_<_, _+_};
-ghost use Rattle.mine_state.specs.State.{W, CellOf};
+ghost use Rattle.mine_state.specs.State.{W, AREA, CellOf};
 ghost use Rattle.mine_state.specs.Spots.{Lent};
 ghost use Rattle.mine_state.specs.WellFormed.{Sound};
 ghost use Rattle.mine_fall.specs.declared.Fell.the-variants.{Quiet};
 ghost use Rattle.mine_rules.specs.Gravity.{isObject, carried, overPlayer, overEmpty, rolled, cellFall, gravityOf};
 ghost use Rattle.mine_fall.specs.Falls.{LentCell, LentCells, Reached, openSpot, Quietly, Does, Falls};
+ghost use Rattle.mine_fall.specs.Places.{Placed, Spots, Slots, left, Falling, Dropped};
 
 // What an object did, beside moving.
 pub enum Fell {
@@ -32,6 +35,14 @@ pub enum Fell {
     Collected,
     Crushed,
     Squashed(usize),
+}
+
+// What a tick changes beside the lent arrays.
+#[repr(C)]
+pub struct Fallen {
+    pub count: usize,
+    pub coins: u32,
+    pub dead: bool,
 }
 
 fn is_object(t: u8) -> bool
@@ -200,58 +211,143 @@ fn cell_fall(
     Fell::Quiet
 }
 
-// One gravity tick: boulders and coins fall a cell, roll off rounded neighbours, and a falling one
+// The place of a creature that is there, and AREA, which is no place, for a slot past the count.
+fn spot_or(there: bool, at: usize) -> usize
+    ensures { λ r. ⌜ r ≡ cond there at AREA ⌝ }
+{
+    if there {
+        return at;
+    }
+    AREA
+}
+
+// Where the creatures stand.
+fn spots_of(
+    xs: &[usize; MAX_ENEMIES],
+    ys: &[usize; MAX_ENEMIES],
+    count: usize,
+) -> [usize; MAX_ENEMIES]
+    requires { ⌜ Placed (now xs) (now ys) ⌝ }
+    ensures { λ r. ⌜ Spots (now (xs .entry)) (now (ys .entry)) count r ⌝ }
+{
+    let mut out: [usize; MAX_ENEMIES] = [AREA; MAX_ENEMIES];
+    let mut i: usize = 0;
+    while i < MAX_ENEMIES {
+        let at = spot_or(i < count, ys[i] * W + xs[i]);
+        out[i] = at;
+        i += 1;
+    }
+    out
+}
+
+// The last creature takes the place of the one that goes, and leaves `blank`.
+fn leave(a: &mut [usize; MAX_ENEMIES], k: usize, last: usize, blank: usize)
+    requires { ⌜ Slots (now a) k last ⌝ }
+    ensures { λ _. ⌜ now (a .exit) ≡ left (now (a .entry)) k last blank ⌝ }
+{
+    let v = a[last];
+    a[k] = v;
+    a[last] = blank;
+}
+
+fn leave_dir(a: &mut [u8; MAX_ENEMIES], k: usize, last: usize)
+    requires { ⌜ Slots (now a) k last ⌝ }
+    ensures { λ _. ⌜ now (a .exit) ≡ left (now (a .entry)) k last 0 ⌝ }
+{
+    let v = a[last];
+    a[k] = v;
+    a[last] = 0;
+}
+
+// One gravity tick, in place: boulders and coins fall a cell, roll off rounded neighbours, and a falling one
 // crushes the player or squashes a creature. Bottom-up, left to right.
+pub fn gravity_on(
+    grid: &mut [u8; AREA],
+    falling: &mut [bool; AREA],
+    xs: &mut [usize; MAX_ENEMIES],
+    ys: &mut [usize; MAX_ENEMIES],
+    dirs: &mut [u8; MAX_ENEMIES],
+    s: Fallen,
+    px: usize,
+    py: usize,
+) -> Fallen
+    requires { ⌜ Falling (now grid) (now falling) (now xs) (now ys) (now dirs) s px py ⌝ }
+    ensures { λ r. ⌜ Dropped px py (now (grid .entry)) (now (falling .entry)) (now (xs .entry)) (now (ys .entry)) (now (dirs .entry)) s (now (grid .exit)) (now (falling .exit)) (now (xs .exit)) (now (ys .exit)) (now (dirs .exit)) r ⌝ }
+{
+    let mut count = s.count;
+    let mut coins = s.coins;
+    let mut dead = s.dead;
+    let mut spots = spots_of(xs, ys, count);
+    let player = py * W + px;
+    let mut y: usize = H;
+    while 0 < y {
+        y -= 1;
+        // Most rows hold no object, and one pass over the row tells.
+        if quiet(grid, y) {
+            continue;
+        }
+        let mut x: usize = 0;
+        while x < W {
+            let fell = cell_fall(grid, falling, &spots, player, x, y);
+            x += 1;
+            match fell {
+                Fell::Quiet => {}
+                Fell::Collected => coins += 1,
+                Fell::Crushed => dead = true,
+                Fell::Squashed(k) => {
+                    count -= 1;
+                    leave(xs, k, count, 0);
+                    leave(ys, k, count, 0);
+                    leave_dir(dirs, k, count);
+                    leave(&mut spots, k, count, AREA);
+                }
+            }
+        }
+    }
+    Fallen {
+        count: count,
+        coins: coins,
+        dead: dead,
+    }
+}
+
+// One gravity tick.
 pub fn gravity(m: Mine) -> Mine
     requires { ⌜ Sound m ⌝ }
     ensures { λ r. ⌜ r ≡ gravityOf m ⌝ }
 {
     let mut grid = m.grid;
     let mut falling = m.falling;
-    let mut enemies = m.enemies;
-    let mut count = m.count;
-    let mut coins = m.coins;
-    let mut dead = m.dead;
-    let mut spots = spots_of(enemies, count);
-    let player = m.py * W + m.px;
-    let mut y: usize = H;
-    while 0 < y {
-        y -= 1;
-        // Most rows hold no object, and one pass over the row tells.
-        if quiet(&grid, y) {
-            continue;
-        }
-        let mut x: usize = 0;
-        while x < W {
-            let fell = cell_fall(&mut grid, &mut falling, &spots, player, x, y);
-            x += 1;
-            match fell {
-                Fell::Quiet => {}
-                Fell::Collected => coins += 1,
-                Fell::Crushed => dead = true,
-                // The last creature takes the place of the one that goes, and leaves zeros.
-                Fell::Squashed(k) => {
-                    count -= 1;
-                    let e = enemies[count];
-                    enemies[k] = e;
-                    enemies[count] = Enemy { x: 0, y: 0, dir: 0 };
-                    let s = spots[count];
-                    spots[k] = s;
-                    spots[count] = AREA;
-                }
-            }
-        }
-    }
+    let old = m.enemies;
+    let mut xs = xs_of(old);
+    let mut ys = ys_of(old);
+    let mut dirs = dirs_of(old);
+    let s = Fallen {
+        count: m.count,
+        coins: m.coins,
+        dead: m.dead,
+    };
+    let to = gravity_on(
+        &mut grid,
+        &mut falling,
+        &mut xs,
+        &mut ys,
+        &mut dirs,
+        s,
+        m.px,
+        m.py,
+    );
+    let enemies = enemies_of(&xs, &ys, &dirs);
     Mine {
         grid: grid,
         falling: falling,
         px: m.px,
         py: m.py,
         enemies: enemies,
-        count: count,
-        coins: coins,
+        count: to.count,
+        coins: to.coins,
         needed: m.needed,
-        dead: dead,
+        dead: to.dead,
         won: m.won,
     }
 }
