@@ -23,15 +23,13 @@ pub fn rows(table: &Table) {
         black_box(ours::cutter_check(c));
     });
     for n in [2, 8, 16] {
+        let states = states::fresh(n);
         let what = format!("Cutter creature tick, {n}");
-        rule(
-            table,
-            &what,
-            Aim::Times(1.0),
-            &states::fresh(n),
-            Held::step_enemies,
-            ours::cutter_tick,
-        );
+        let ours =
+            |c: &mut Cutter| c.dead |= ours::cutter_tick_on(&c.grid, &mut c.enemies, c.count);
+        in_place(table, &what, Aim::Times(1.0), &states, Held::step_enemies, ours);
+        let what = format!("{what}, by value");
+        rule(table, &what, Aim::More(copies), &states, Held::step_enemies, ours::cutter_tick);
     }
     let step = |what: &str, aim, states: &[Cutter]| {
         rule(table, what, aim, states, Held::step_player, ours::cutter_step);
@@ -63,6 +61,17 @@ fn rule(
     ours: fn(&Cutter, &mut Cutter),
 ) {
     table.rule(what, aim, states, Held::of, |_, g| rust(g), Held::state, ours);
+}
+
+fn in_place(
+    table: &Table,
+    what: &str,
+    aim: Aim,
+    states: &[Cutter],
+    rust: fn(&mut Held),
+    ours: fn(&mut Cutter),
+) {
+    table.in_place(what, aim, states, Held::of, |_, g| rust(g), Held::state, |_, c| ours(c));
 }
 
 /// The copies of a state in and out, in nanoseconds.

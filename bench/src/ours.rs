@@ -1,6 +1,6 @@
 //! The port's functions, by the pointers of `calls.c`.
 
-use oracle::state::{CELLS, Cutter, ENEMIES, Enemy, Mine};
+use oracle::state::{CELLS, CN, Cutter, ENEMIES, Enemy, MOVERS, Mine, Mover};
 
 /// The ground report.
 #[repr(C)]
@@ -35,6 +35,7 @@ calls! {
     cutter_check: by_check_cutter(c: &Cutter) -> u8;
     cutter_step: by_rule_cutter_step(c: &Cutter, out: &mut Cutter);
     cutter_tick: by_rule_cutter_tick(c: &Cutter, out: &mut Cutter);
+    cutter_tick_on: rule_cutter_tick_on(grid: &[u8; CN], enemies: &mut [Mover; MOVERS], count: usize) -> bool;
     cutter_respawn: by_rule_cutter_respawn(c: &Cutter, out: &mut Cutter);
     cutter_walk: by_rule_cutter_walk(c: &Cutter) -> usize;
     cutter_ground: by_call_cutter_ground(c: &Cutter) -> Ground;

@@ -21,11 +21,15 @@ use Rattle.cutter_state.proofs.Ring.{holds-inside, holds-code, inside-ring}
 use Rattle.cutter_rules.specs.Ahead.{sideOf, verticalOf, diagonalOf}
 use Rattle.cutter_rules.specs.Tick.{lineAhead, flipped, turned, gone, bounced, ticked}
 use Rattle.cutter_moves.specs.declared.enemies.Moved.{Moved}
+use Rattle.cutter_moves.specs.declared.enemies.Roamed.{Roamed}
 use Rattle.cutter_moves.specs.declared.enemies.View.{View}
-use Rattle.cutter_moves.specs.Moves.{Roams, Ticks, viewOf, moverAt, tickOf}
+use Rattle.cutter_moves.specs.Moves.{Roams, Ticks, viewOf, moverAt, roamOf, tickOf}
 
 view-same : {a b : ℕ} {s t u v w x : ℕ} → a ≡ b → s ≡ t → u ≡ v → w ≡ x → _≡_ {A = View} (record { to = a; side = s; vertical = u; diagonal = w }) (record { to = b; side = t; vertical = v; diagonal = x })
 view-same p q r o = cc
+
+roamed-same : {l m : Mover} → l ≡ m → _≡_ {A = Roamed} (record { met = false; to = l }) (record { met = false; to = m })
+roamed-same p = cc
 
 module _ (g : List ℕ) (e : Mover) where
   -- the three cells read on the grid are what the creature sees
@@ -37,7 +41,7 @@ module _ (g : List ℕ) (e : Mover) where
 
   module _ (v : View) (s : v ≡ viewOf g e) where
     -- black in all three: straight on, and no line
-    pub clear-on : (eqb (v .side) CB-BLACK && eqb (v .vertical) CB-BLACK && eqb (v .diagonal) CB-BLACK) ≡ true → (lineAhead g e ≡ false) × (moverAt (v .to) (e .vx) (e .vy) ≡ bounced g e)
+    clear-on : (eqb (v .side) CB-BLACK && eqb (v .vertical) CB-BLACK && eqb (v .diagonal) CB-BLACK) ≡ true → (lineAhead g e ≡ false) × (moverAt (v .to) (e .vx) (e .vy) ≡ bounced g e)
     unfolding lineAhead bounced turned gone
     clear-on c =
         let t = and-three (eqb (v .side) CB-BLACK) (eqb (v .vertical) CB-BLACK) (eqb (v .diagonal) CB-BLACK) c in
@@ -48,14 +52,24 @@ module _ (g : List ℕ) (e : Mover) where
           ap (λ (w : View). moverAt (w .to) (e .vx) (e .vy)) s ∙ simp (a, b, d),
         )
 
-    pub line-seen : (eqb (v .side) CB-TRAIL || eqb (v .vertical) CB-TRAIL || eqb (v .diagonal) CB-TRAIL) ≡ lineAhead g e
+    line-seen : (eqb (v .side) CB-TRAIL || eqb (v .vertical) CB-TRAIL || eqb (v .diagonal) CB-TRAIL) ≡ lineAhead g e
     unfolding lineAhead
     line-seen = ap (λ (w : View). eqb (w .side) CB-TRAIL || eqb (w .vertical) CB-TRAIL || eqb (w .diagonal) CB-TRAIL) s
 
-    -- a velocity part turned by what it sees
+    -- velocity parts turned by what is ahead
     pub bounce-seen : gone g e (cond (eqb (v .side) CB-BLACK) (e .vx) (flipped (e .vx))) (cond (eqb (v .vertical) CB-BLACK) (e .vy) (flipped (e .vy))) ≡ bounced g e
     unfolding bounced turned
     bounce-seen = ap (λ (w : View). gone g e (cond (eqb (w .side) CB-BLACK) (e .vx) (flipped (e .vx))) (cond (eqb (w .vertical) CB-BLACK) (e .vy) (flipped (e .vy)))) s
+
+    -- the three ways of a move
+    pub roam-clear : (eqb (v .side) CB-BLACK && eqb (v .vertical) CB-BLACK && eqb (v .diagonal) CB-BLACK) ≡ true → (m : Mover) → m ≡ moverAt (v .to) (e .vx) (e .vy) → record { met = false; to = m } ≡ roamOf g e
+    roam-clear c m q = let z = clear-on c in rw (z .0) (roamed-same (q ∙ z .1))
+
+    pub roam-line : (eqb (v .side) CB-TRAIL || eqb (v .vertical) CB-TRAIL || eqb (v .diagonal) CB-TRAIL) ≡ true → record { met = true; to = e } ≡ roamOf g e
+    roam-line l = rw (sym line-seen ∙ l)
+
+    pub roam-turned : (eqb (v .side) CB-TRAIL || eqb (v .vertical) CB-TRAIL || eqb (v .diagonal) CB-TRAIL) ≡ false → (m : Mover) → m ≡ bounced g e → record { met = false; to = m } ≡ roamOf g e
+    roam-turned l m q = rw (sym line-seen ∙ l) (roamed-same q)
 
   -- a creature on black is inside the ring
   pub roams : length g ≡ CN → rowsFilled g ≡ true → columnsFilled g ≡ true → moverOk g e ≡ true → Roams g e (e .vx) (e .vy)
@@ -119,9 +133,9 @@ module _ (g : List ℕ) (l : List Mover) (n : ℕ) (out : List Mover) (i : ℕ) 
   pub going-roams : Ticks g l n → i < n → Roams g (getD out i d) (getD out i d .vx) (getD out i d .vy)
   going-roams t k = roams g (getD out i d) (t .cells) (t .rows) (t .columns) (and-left (moverOk g (getD out i d)) (all (moverOk g) (drop (i + 1) (take n l))) (still-ok k))
 
-  pub going-more : i < n → lineAhead g (getD out i d) ≡ false → Going g l n (set out i (bounced g (getD out i d))) (i + 1)
+  gone-more : i < n → lineAhead g (getD out i d) ≡ false → Going g l n (set out i (bounced g (getD out i d))) (i + 1)
   unfolding ticked
-  going-more k t =
+  gone-more k t =
       let e = next-taken k in
       let later = next k .1 in
       let v = bounced g (getD out i d) in
@@ -134,13 +148,27 @@ module _ (g : List ℕ) (l : List Mover) (n : ℕ) (out : List Mover) (i : ℕ) 
         safe = any-more (lineAhead g) (take n l) i e (s .safe) t;
       }
 
-  pub going-dead : i < n → lineAhead g (getD out i d) ≡ true → record { enemies = out; dead = true } ≡ tickOf g l n
+  gone-dead : i < n → lineAhead g (getD out i d) ≡ true → record { enemies = out; dead = true } ≡ tickOf g l n
   unfolding ticked tickOf
-  going-dead k t =
+  gone-dead k t =
       let e = next-taken k in
       let r : ticked g (drop i (take n l)) ≡ drop i (take n l) = rw (e, t) in
       let p = rw (r, taken-rest n i l (s .within), ← s .rest, take-append-drop i out) at (s .done) in
       moved-same out _ true _ p (any-holds (lineAhead g) (take n l) i e (s .safe) t)
+
+  -- by what the move of the creature i was
+  module _ (k : i < n) (r : Roamed) (q : r ≡ roamOf g (getD out i d)) where
+    met : lineAhead g (getD out i d) ≡ r .met
+    met = ap (λ (z : Roamed). z .met) (sym q)
+
+    pub going-more : r .met ≡ false → Going g l n (set out i (r .to)) (i + 1)
+    going-more t =
+        let f = met ∙ t in
+        let m : r .to ≡ bounced g (getD out i d) = ap (λ (z : Roamed). z .to) q ∙ rw f in
+        rw m (gone-more k f)
+
+    pub going-dead : r .met ≡ true → record { enemies = out; dead = true } ≡ tickOf g l n
+    going-dead t = gone-dead k (met ∙ t)
 
 module _ (g : List ℕ) (l : List Mover) (n : ℕ) (out : List Mover) (i : ℕ) (s : Going g l n out i) (h : n ≤ length l) where
   pub going-end : n ≤ i → record { enemies = out; dead = false } ≡ tickOf g l n

@@ -1,5 +1,5 @@
 -- Block Cutter: what the code of the moves is handed, and what its loop answers. No promise cites it.
-use mathlib.Core.Bool.{true}
+use mathlib.Core.Bool.{true, cond}
 use mathlib.Core.List.{List, _++_}
 use mathlib.Core.Path.{_≡_}
 use Prim.Native.Nat.{ℕ, _-_, _<_, _≤_, _/_, _%_}
@@ -12,8 +12,9 @@ use Rattle.cutter_state.specs.declared.Cutter.{Cutter}
 use Rattle.cutter_state.specs.State.{Inside}
 use Rattle.cutter_state.specs.WellFormed.{rowsFilled, columnsFilled, isUnit, moverOk, WellFormed}
 use Rattle.cutter_rules.specs.Ahead.{sideOf, verticalOf, diagonalOf}
-use Rattle.cutter_rules.specs.Tick.{lineAhead, ticked}
+use Rattle.cutter_rules.specs.Tick.{lineAhead, bounced, ticked}
 use Rattle.cutter_moves.specs.declared.enemies.Moved.{Moved}
+use Rattle.cutter_moves.specs.declared.enemies.Roamed.{Roamed}
 use Rattle.cutter_moves.specs.declared.enemies.View.{View}
 
 -- a place on the grid
@@ -66,6 +67,10 @@ pub record Bounces (g : List ℕ) (e : Mover) (v : View) : Type 0 where
 -- a creature at the cell t
 abbrev pub moverAt : ℕ → ℤ → ℤ → Mover
 moverAt t vx vy = record { x = t % CW; y = t / CW; vx = vx; vy = vy }
+
+-- whether a creature has line ahead, and where it is then
+abbrev pub roamOf : List ℕ → Mover → Roamed
+roamOf g e = record { met = lineAhead g e; to = cond (lineAhead g e) e (bounced g e) }
 
 -- the tick of the first n creatures, and whether one of them had line ahead
 unfoldable pub tickOf : List ℕ → List Mover → ℕ → Moved

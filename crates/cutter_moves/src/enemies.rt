@@ -7,7 +7,7 @@ ghost use lib.ListN.{take};
 ghost use Rattle.ground.specs.Cells.{CN, MAX-ENEMIES, CB-BLACK, CB-TRAIL};
 ghost use Rattle.cutter_state.specs.WellFormed.{WellFormed};
 ghost use Rattle.cutter_rules.specs.Tick.{creatureAt, flipped, gone, bounced, enemiesStepped};
-ghost use Rattle.cutter_moves.specs.Moves.{Roams, Bounces, Ticks, viewOf, moverAt, tickOf};
+ghost use Rattle.cutter_moves.specs.Moves.{Roams, Bounces, Ticks, viewOf, moverAt, roamOf, tickOf};
 use crate::ahead::side_in;
 use crate::ahead::vertical_in;
 use cutter_state::Cutter;
@@ -126,6 +126,32 @@ fn bounce(grid: &[u8; CN], e: Mover, v: View) -> Mover
     go(grid, e, vx, vy)
 }
 
+// A creature after its move, or as it was where it met the line.
+pub struct Roamed {
+    pub met: bool,
+    pub to: Mover,
+}
+
+// Bounce diagonally through the black: straight on where all three cells ahead are.
+pub fn roam(grid: &[u8; CN], e: Mover) -> Roamed
+    requires { ⌜ Roams (now grid) e (e .vx) (e .vy) ⌝ }
+    ensures { λ r. ⌜ r ≡ roamOf (now (grid .entry)) e ⌝ }
+{
+    let v = look(grid, e);
+    if is_clear(v) {
+        let on = put(v.to, e.vx, e.vy);
+        return Roamed { met: false, to: on };
+    }
+    if is_line(v) {
+        return Roamed { met: true, to: e };
+    }
+    let back = bounce(grid, e, v);
+    Roamed {
+        met: false,
+        to: back,
+    }
+}
+
 // The creatures after a tick, and whether one of them met the line.
 pub struct Moved {
     pub enemies: [Mover; MAX_ENEMIES],
@@ -141,19 +167,15 @@ pub fn tick(grid: &[u8; CN], enemies: [Mover; MAX_ENEMIES], count: usize) -> Mov
     let mut i: usize = 0;
     while i < count {
         let e = out[i];
-        let v = look(grid, e);
-        if is_clear(v) {
-            out[i] = put(v.to, e.vx, e.vy);
-            i += 1;
-            continue;
-        }
-        if is_line(v) {
+        let r = roam(grid, e);
+        if r.met {
             return Moved {
                 enemies: out,
                 dead: true,
             };
         }
-        out[i] = bounce(grid, e, v);
+        let to = r.to;
+        out[i] = to;
         i += 1;
     }
     Moved {
@@ -167,11 +189,10 @@ pub fn step_enemies(c: Cutter) -> Cutter
     requires { ⌜ WellFormed c ⌝ }
     ensures { λ r. ⌜ r ≡ enemiesStepped c ⌝ }
 {
-    let grid = c.grid;
-    let enemies = c.enemies;
-    let t = tick(&grid, enemies, c.count);
-    let moved = t.enemies;
     let mut out = c;
+    let enemies = c.enemies;
+    let t = tick(&out.grid, enemies, c.count);
+    let moved = t.enemies;
     out.enemies = moved;
     out.dead = c.dead | t.dead;
     out

@@ -1,6 +1,9 @@
 // Block Cutter.
 use cutter_state::Cutter;
+use ground::CN;
 use ground::CW;
+use ground::MAX_ENEMIES;
+use ground::Mover;
 use refusal::Refusal;
 ghost use mathlib.Core.Bool.{true};
 ghost use mathlib.Core.Path.{_≡_};
@@ -11,7 +14,7 @@ ghost use Rattle.cutter_state.specs.WellFormed.{WellFormed, refusalOf};
 ghost use Rattle.cutter_rules.specs.Level.{drawsOk, creaturesOf, freshLevel};
 ghost use Rattle.cutter_rules.specs.Step.{stepped, respawned};
 ghost use Rattle.cutter_rules.specs.Tick.{enemiesStepped};
-ghost use Rattle.cutter_moves.specs.Moves.{OnGrid};
+ghost use Rattle.cutter_moves.specs.Moves.{OnGrid, Ticks, tickOf};
 ghost use Rattle.cutter_picture.specs.Picture.{Drawable, cutLit};
 
 // The copies of a state in and out, and nothing else.
@@ -43,6 +46,28 @@ pub extern "C" fn rule_cutter_tick(c: Cutter) -> Cutter
     ensures { λ r. ⌜ r ≡ enemiesStepped c ⌝ }
 {
     cutter_moves::step_enemies(c)
+}
+
+// The same in place, on the ground and the creatures as they are lent; answers whether one of them met the line.
+#[no_mangle]
+pub extern "C" fn rule_cutter_tick_on(
+    grid: &[u8; CN],
+    enemies: &mut [Mover; MAX_ENEMIES],
+    count: usize,
+) -> bool
+    requires { ⌜ Ticks (now grid) (now enemies) count ⌝ }
+    ensures { λ r. ⌜ record { enemies = now (enemies .exit); dead = r } ≡ tickOf (now (grid .entry)) (now (enemies .entry)) count ⌝ }
+{
+    let mut i: usize = 0;
+    while i < count {
+        let r = cutter_moves::roam(grid, enemies[i]);
+        if r.met {
+            return true;
+        }
+        enemies[i] = r.to;
+        i += 1;
+    }
+    false
 }
 
 #[no_mangle]
