@@ -60,6 +60,20 @@ void by_rule_mine_gravity_on(u8 *grid, _Bool *falling, usize *xs, usize *ys, u8 
     *s = rule_mine_gravity_on(grid, falling, xs, ys, dirs, *s, px, py);
 }
 
+typedef struct {
+    u8 bytes[64];
+} Movers;
+
+typedef struct {
+    Movers movers;
+    _Bool met;
+} Moved;
+
+void *rule_cutter_tick_on(Moved *out, const u8 *grid, Movers movers, usize count);
+void by_rule_cutter_tick_on(const u8 *grid, const Movers *movers, usize count, Moved *out) {
+    rule_cutter_tick_on(out, grid, *movers, count);
+}
+
 void *rule_mine_load(Mine *out);
 void by_rule_mine_load(Mine *out) { rule_mine_load(out); }
 

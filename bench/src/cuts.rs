@@ -10,6 +10,7 @@ use oracle::stand_ins::device;
 use oracle::state::{CW, Cutter, Pace};
 
 use crate::clock::Pair;
+use crate::ours::Moved;
 use crate::table::{Aim, Table};
 use crate::{KEYS, LATE, ours, states};
 
@@ -25,9 +26,7 @@ pub fn rows(table: &Table) {
     for n in [2, 8, 16] {
         let states = states::fresh(n);
         let what = format!("Cutter creature tick, {n}");
-        let ours =
-            |c: &mut Cutter| c.dead |= ours::cutter_tick_on(&c.grid, &mut c.enemies, c.count);
-        in_place(table, &what, Aim::Times(1.0), &states, Held::step_enemies, ours);
+        tick(table, &what, &states);
         let what = format!("{what}, by value");
         rule(table, &what, Aim::More(copies), &states, Held::step_enemies, ours::cutter_tick);
     }
@@ -63,15 +62,19 @@ fn rule(
     table.rule(what, aim, states, Held::of, |_, g| rust(g), Held::state, ours);
 }
 
-fn in_place(
-    table: &Table,
-    what: &str,
-    aim: Aim,
-    states: &[Cutter],
-    rust: fn(&mut Held),
-    ours: fn(&mut Cutter),
-) {
-    table.in_place(what, aim, states, Held::of, |_, g| rust(g), Held::state, |_, c| ours(c));
+/// The tick on the ground as it lies; the creatures go in by value, and come out beside it.
+fn tick(table: &Table, what: &str, states: &[Cutter]) {
+    let held = (Held::of, |_: &Cutter, g: &mut Held| g.step_enemies(), Held::state);
+    let apart = |c: &Cutter| (c.clone(), Moved { enemies: c.enemies.clone(), met: false });
+    let ours = |_: &Cutter, (c, out): &mut (Cutter, Moved)| {
+        ours::cutter_tick_on(&c.grid, &c.enemies, c.count, out);
+    };
+    let whole = |(c, out): &(Cutter, Moved)| Cutter {
+        enemies: out.enemies.clone(),
+        dead: c.dead | out.met,
+        ..c.clone()
+    };
+    table.in_parts(what, Aim::Times(1.0), states, held, (apart, ours, whole));
 }
 
 /// The copies of a state in and out, in nanoseconds.

@@ -13,6 +13,14 @@ pub struct Ground {
     pub share: u16,
 }
 
+/// Cutter's creatures after a tick, and whether one met the line.
+#[repr(C)]
+#[derive(Clone)]
+pub struct Moved {
+    pub enemies: [Mover; MOVERS],
+    pub met: bool,
+}
+
 macro_rules! calls {
     ($($name:ident: $call:ident($($word:ident: $type:ty),*) $(-> $result:ty)?;)*) => {
         unsafe extern "C" {
@@ -35,7 +43,7 @@ calls! {
     cutter_check: by_check_cutter(c: &Cutter) -> u8;
     cutter_step: by_rule_cutter_step(c: &Cutter, out: &mut Cutter);
     cutter_tick: by_rule_cutter_tick(c: &Cutter, out: &mut Cutter);
-    cutter_tick_on: rule_cutter_tick_on(grid: &[u8; CN], enemies: &mut [Mover; MOVERS], count: usize) -> bool;
+    cutter_tick_on: by_rule_cutter_tick_on(grid: &[u8; CN], enemies: &[Mover; MOVERS], count: usize, out: &mut Moved);
     cutter_respawn: by_rule_cutter_respawn(c: &Cutter, out: &mut Cutter);
     cutter_walk: by_rule_cutter_walk(c: &Cutter) -> usize;
     cutter_ground: by_call_cutter_ground(c: &Cutter) -> Ground;

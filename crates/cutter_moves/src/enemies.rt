@@ -153,6 +153,7 @@ pub fn roam(grid: &[u8; CN], e: Mover) -> Roamed
 }
 
 // The creatures after a tick, and whether one of them met the line.
+#[repr(C)]
 pub struct Moved {
     pub enemies: [Mover; MAX_ENEMIES],
     pub dead: bool,

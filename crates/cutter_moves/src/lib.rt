@@ -3,9 +3,9 @@ mod ahead;
 mod enemies;
 mod player;
 
-pub use enemies::Roamed;
-pub use enemies::roam;
+pub use enemies::Moved;
 pub use enemies::step_enemies;
+pub use enemies::tick;
 pub use player::direction;
 pub use player::respawn;
 pub use player::step_player;

@@ -1,4 +1,5 @@
 // Block Cutter.
+use cutter_moves::Moved;
 use cutter_state::Cutter;
 use ground::CN;
 use ground::CW;
@@ -48,26 +49,20 @@ pub extern "C" fn rule_cutter_tick(c: Cutter) -> Cutter
     cutter_moves::step_enemies(c)
 }
 
-// The same in place, on the ground and the creatures as they are lent; answers whether one of them met the line.
+// The creatures, as a C struct holds them.
+#[repr(C)]
+pub struct Movers {
+    pub enemies: [Mover; MAX_ENEMIES],
+}
+
+// The same on the lent ground and the creatures alone, which is what the rule on a state calls.
 #[no_mangle]
-pub extern "C" fn rule_cutter_tick_on(
-    grid: &[u8; CN],
-    enemies: &mut [Mover; MAX_ENEMIES],
-    count: usize,
-) -> bool
-    requires { ⌜ Ticks (now grid) (now enemies) count ⌝ }
-    ensures { λ r. ⌜ record { enemies = now (enemies .exit); dead = r } ≡ tickOf (now (grid .entry)) (now (enemies .entry)) count ⌝ }
+pub extern "C" fn rule_cutter_tick_on(grid: &[u8; CN], movers: Movers, count: usize) -> Moved
+    requires { ⌜ Ticks (now grid) (movers .enemies) count ⌝ }
+    ensures { λ r. ⌜ r ≡ tickOf (now (grid .entry)) (movers .enemies) count ⌝ }
 {
-    let mut i: usize = 0;
-    while i < count {
-        let r = cutter_moves::roam(grid, enemies[i]);
-        if r.met {
-            return true;
-        }
-        enemies[i] = r.to;
-        i += 1;
-    }
-    false
+    let enemies = movers.enemies;
+    cutter_moves::tick(grid, enemies, count)
 }
 
 #[no_mangle]
