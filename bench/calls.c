@@ -48,10 +48,23 @@ PICTURE(Mine, rule_mine_picture)
 PICTURE(Cutter, rule_cutter_picture)
 
 typedef struct {
+    usize px, py;
+    u32 coins, needed;
+    _Bool dead, won;
+} Player;
+
+typedef struct {
     usize count;
     u32 coins;
     _Bool dead;
 } Fallen;
+
+void *rule_mine_step_on(Player *out, u8 *grid, const usize *xs, const usize *ys, usize count,
+                        Player in, u8 dir);
+void by_rule_mine_step_on(u8 *grid, const usize *xs, const usize *ys, usize count, Player *p,
+                          u8 dir) {
+    rule_mine_step_on(p, grid, xs, ys, count, *p, dir);
+}
 
 Fallen rule_mine_gravity_on(u8 *grid, _Bool *falling, usize *xs, usize *ys, u8 *dirs, Fallen s,
                             usize px, usize py);

@@ -15,8 +15,19 @@ pub fn rows(table: &Table) {
     check(table);
     load(table);
     let moves = states::moves();
-    table.rule(
+    table.in_parts(
         "move",
+        Aim::Times(1.0),
+        &moves,
+        (
+            |s: &(Mine, u8)| Held::of(&s.0),
+            |s: &(Mine, u8), g: &mut Held| g.step_player(s.1),
+            Held::state,
+        ),
+        (Parts::of, |s: &(Mine, u8), p: &mut Parts| ours::mine_step_on(p, s.1), Parts::whole),
+    );
+    table.rule(
+        "move, by value",
         Aim::More(copies),
         &moves,
         |s| Held::of(&s.0),

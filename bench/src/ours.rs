@@ -70,6 +70,17 @@ impl Parts {
     }
 }
 
+/// What a move changes beside the grid.
+#[repr(C)]
+struct Player {
+    px: usize,
+    py: usize,
+    coins: u32,
+    needed: u32,
+    dead: bool,
+    won: bool,
+}
+
 /// What a gravity tick changes beside the arrays.
 #[repr(C)]
 struct Fallen {
@@ -79,6 +90,14 @@ struct Fallen {
 }
 
 unsafe extern "C" {
+    safe fn by_rule_mine_step_on(
+        grid: &mut [u8; CELLS],
+        xs: &[usize; ENEMIES],
+        ys: &[usize; ENEMIES],
+        count: usize,
+        p: &mut Player,
+        dir: u8,
+    );
     safe fn by_rule_mine_gravity_on(
         grid: &mut [u8; CELLS],
         falling: &mut [bool; CELLS],
@@ -98,6 +117,13 @@ unsafe extern "C" {
         px: usize,
         py: usize,
     ) -> bool;
+}
+
+pub fn mine_step_on(Parts { mine: m, xs, ys, .. }: &mut Parts, dir: u8) {
+    let Mine { px, py, coins, needed, dead, won, .. } = *m;
+    let mut p = Player { px, py, coins, needed, dead, won };
+    by_rule_mine_step_on(&mut m.grid, xs, ys, m.count, &mut p, dir);
+    (m.px, m.py, m.coins, m.dead, m.won) = (p.px, p.py, p.coins, p.dead, p.won);
 }
 
 pub fn mine_gravity_on(Parts { mine: m, xs, ys, dirs }: &mut Parts) {

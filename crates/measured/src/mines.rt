@@ -1,5 +1,6 @@
 // Block Mine.
 use mine_fall::Fallen;
+use mine_moves::Player;
 use mine_state::AREA;
 use mine_state::MAX_ENEMIES;
 use mine_state::Mine;
@@ -11,7 +12,7 @@ ghost use Rattle.mine_rules.specs.Load.{loaded};
 ghost use Rattle.mine_rules.specs.Move.{moved};
 ghost use Rattle.mine_rules.specs.Tick.{ticked};
 ghost use Rattle.mine_rules.specs.Gravity.{gravityOf};
-ghost use Rattle.mine_moves.specs.Steps.{Walkers, Ticked};
+ghost use Rattle.mine_moves.specs.Steps.{Stands, Steps, Walkers, Ticked};
 ghost use Rattle.mine_fall.specs.Places.{Falling, Dropped};
 ghost use Rattle.mine_picture.specs.Picture.{Drawable, mineLit};
 
@@ -46,6 +47,21 @@ pub extern "C" fn rule_mine_step(m: Mine, dir: u8) -> Mine
 }
 
 #[no_mangle]
+pub extern "C" fn rule_mine_step_on(
+    grid: &mut [u8; AREA],
+    xs: &[usize; MAX_ENEMIES],
+    ys: &[usize; MAX_ENEMIES],
+    count: usize,
+    p: Player,
+    dir: u8,
+) -> Player
+    requires { ⌜ Stands (now grid) (now xs) (now ys) count p ⌝ }
+    ensures { λ r. ⌜ Steps (now (grid .entry)) (now (xs .entry)) (now (ys .entry)) count p dir (now (grid .exit)) r ⌝ }
+{
+    mine_moves::step_on(grid, xs, ys, count, p, dir)
+}
+
+#[no_mangle]
 pub extern "C" fn rule_mine_gravity(m: Mine) -> Mine
     requires { ⌜ Sound m ⌝ }
     ensures { λ r. ⌜ r ≡ gravityOf m ⌝ }
@@ -65,7 +81,7 @@ pub extern "C" fn rule_mine_gravity_on(
     py: usize,
 ) -> Fallen
     requires { ⌜ Falling (now grid) (now falling) (now xs) (now ys) (now dirs) s px py ⌝ }
-    ensures { λ r. ⌜ Dropped px py (now (grid .entry)) (now (falling .entry)) (now (xs .entry)) (now (ys .entry)) (now (dirs .entry)) s (now (grid .exit)) (now (falling .exit)) (now (xs .exit)) (now (ys .exit)) (now (dirs .exit)) r ⌝ }
+    ensures { λ r. ⌜ Dropped gravityOf px py (now (grid .entry)) (now (falling .entry)) (now (xs .entry)) (now (ys .entry)) (now (dirs .entry)) s (now (grid .exit)) (now (falling .exit)) (now (xs .exit)) (now (ys .exit)) (now (dirs .exit)) r ⌝ }
 {
     mine_fall::gravity_on(grid, falling, xs, ys, dirs, s, px, py)
 }
@@ -89,7 +105,7 @@ pub extern "C" fn rule_mine_tick_on(
     py: usize,
 ) -> bool
     requires { ⌜ Walkers (now grid) (now xs) (now ys) (now dirs) count ⌝ }
-    ensures { λ r. ⌜ Ticked (now (grid .entry)) count px py (now (xs .entry)) (now (ys .entry)) (now (dirs .entry)) r (now (xs .exit)) (now (ys .exit)) (now (dirs .exit)) ⌝ }
+    ensures { λ r. ⌜ Ticked ticked (now (grid .entry)) count px py (now (xs .entry)) (now (ys .entry)) (now (dirs .entry)) r (now (xs .exit)) (now (ys .exit)) (now (dirs .exit)) ⌝ }
 {
     mine_moves::tick_on(grid, xs, ys, dirs, count, px, py)
 }

@@ -1,12 +1,14 @@
 -- Creatures taken apart: the numbers of each part in a list of its own. No promise of a public call cites it.
+use mathlib.Core.Bool.{Bool}
 use mathlib.Core.List.{List, [], _∷_}
 use mathlib.Core.Path.{_≡_}
 use Prim.Native.Nat.{ℕ, _≤_}
 use lib.ListN.{length, take}
 use Rattle.found.specs.First.{first}
 use Rattle.found.specs.declared.Found.{Found}
+use Rattle.mine_state.specs.declared.Mine.{Mine}
 use Rattle.mine_state.specs.declared.Enemy.{Enemy}
-use Rattle.mine_state.specs.State.{MAX-ENEMIES, standsAt}
+use Rattle.mine_state.specs.State.{AREA, MAX-ENEMIES, standsAt, freeAt}
 
 abbrev pub xOf : Enemy → ℕ
 xOf e = e .x
@@ -23,6 +25,10 @@ joined [] ys ds = []
 joined (x ∷ xs) [] ds = []
 joined (x ∷ xs) (y ∷ ys) [] = []
 joined (x ∷ xs) (y ∷ ys) (d ∷ ds) = record { x = x; y = y; dir = d } ∷ joined xs ys ds
+
+-- the state m with this grid, these creatures and this player's place
+abbrev pub standing : Mine → List ℕ → List Enemy → ℕ → ℕ → ℕ → Mine
+standing m g es n px py = record { grid = g; falling = m .falling; px = px; py = py; enemies = es; count = n; coins = m .coins; needed = m .needed; dead = m .dead; won = m .won }
 
 -- the lists have a number for each slot
 pub record Apart (xs ys ds : List ℕ) : Type 0 where
@@ -43,6 +49,15 @@ pub record Looked (xs ys : List ℕ) (k n : ℕ) : Type 0 where
   pub enough : n ≤ k
   pub few : k ≤ MAX-ENEMIES
 
+-- the lent cells and places
+pub record Lent (g xs ys : List ℕ) (n : ℕ) : Type 0 where
+  pub cells : length g ≡ AREA
+  pub people : Peopled xs ys n
+
 -- whatever their directions, r is the first of the first n of them at (x, y), or nobody
 abbrev pub Sees : List ℕ → List ℕ → ℕ → ℕ → ℕ → Found → Type 0
 Sees xs ys n x y r = (ds : List ℕ) → length ds ≡ MAX-ENEMIES → r ≡ first (standsAt x y) (take n (joined xs ys ds))
+
+-- whatever else a state holds that has the lent cells, creatures at the lent places and its player at (px, py): whether (x, y) is free
+abbrev pub Frees : List ℕ → List ℕ → List ℕ → ℕ → ℕ → ℕ → ℕ → ℕ → Bool → Type 0
+Frees g xs ys n px py x y r = (m : Mine) (ds : List ℕ) → length ds ≡ MAX-ENEMIES → r ≡ freeAt (standing m g (joined xs ys ds) n px py) x y

@@ -1,13 +1,17 @@
 // Block Mine's creatures taken apart into arrays of numbers, which are lent where creatures are not, and who stands where by them.
 use found::Found;
+use mine_state::AREA;
+use mine_state::EMPTY;
 use mine_state::Enemy;
+use mine_state::H;
 use mine_state::MAX_ENEMIES;
+use mine_state::W;
 ghost use mathlib.Core.Bool.{cond};
 ghost use mathlib.Core.List.{map};
 ghost use mathlib.Core.Path.{_≡_};
 ghost use lib.Dec.{ltb};
 ghost use Rattle.found.specs.declared.Found.the-variants.{At, Nobody};
-ghost use Rattle.mine_apart.specs.Apart.{xOf, yOf, dirOf, joined, Apart, Peopled, Looked, Sees};
+ghost use Rattle.mine_apart.specs.Apart.{xOf, yOf, dirOf, joined, Apart, Peopled, Looked, Lent, Sees, Frees};
 
 // As many creatures as the level has. A loop over as many slots, or over all, is compiled without a counter.
 const FEW: usize = 2;
@@ -120,4 +124,37 @@ pub fn enemy_at(
         return first_of(xs, ys, FEW, count, x, y);
     }
     first_of(xs, ys, MAX_ENEMIES, count, x, y)
+}
+
+// A cell an object may be pushed into: empty terrain with nobody standing on it.
+pub fn free(
+    grid: &[u8; AREA],
+    xs: &[usize; MAX_ENEMIES],
+    ys: &[usize; MAX_ENEMIES],
+    count: usize,
+    px: usize,
+    py: usize,
+    x: usize,
+    y: usize,
+) -> bool
+    requires { ⌜ Lent (now grid) (now xs) (now ys) count ⌝ }
+    ensures { λ r. ⌜ Frees (now (grid .entry)) (now (xs .entry)) (now (ys .entry)) count px py x y r ⌝ }
+{
+    if W <= x {
+        return false;
+    }
+    if H <= y {
+        return false;
+    }
+    let at = y * W + x;
+    if grid[at] != EMPTY {
+        return false;
+    }
+    if (px == x) & (py == y) {
+        return false;
+    }
+    if let Found::At(_) = enemy_at(xs, ys, count, x, y) {
+        return false;
+    }
+    true
 }

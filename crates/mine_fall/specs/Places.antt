@@ -9,7 +9,6 @@ use Rattle.mine_state.specs.declared.Enemy.{Enemy}
 use Rattle.mine_state.specs.State.{W, H, MAX-ENEMIES}
 use Rattle.mine_state.specs.Spots.{spotsFrom}
 use Rattle.mine_state.specs.WellFormed.{Sound}
-use Rattle.mine_rules.specs.Gravity.{gravityOf}
 use Rattle.mine_apart.specs.Apart.{joined, Apart}
 use Rattle.mine_fall.specs.declared.Fallen.{Fallen}
 
@@ -41,7 +40,7 @@ pub record Falling (g : List ℕ) (f : List Bool) (xs ys ds : List ℕ) (s : Fal
   pub parts : Apart xs ys ds
   pub sound : (m : Mine) → Sound (whole m px py g f (joined xs ys ds) s)
 
--- whatever else a state holds, a tick makes the second arrays and numbers of the first
-pub record Dropped (px py : ℕ) (g : List ℕ) (f : List Bool) (xs ys ds : List ℕ) (s : Fallen) (g′ : List ℕ) (f′ : List Bool) (xs′ ys′ ds′ : List ℕ) (r : Fallen) : Type 0 where
+-- whatever else a state holds, the rule makes the second arrays and numbers of the first
+pub record Dropped (rule : Mine → Mine) (px py : ℕ) (g : List ℕ) (f : List Bool) (xs ys ds : List ℕ) (s : Fallen) (g′ : List ℕ) (f′ : List Bool) (xs′ ys′ ds′ : List ℕ) (r : Fallen) : Type 0 where
   pub parts : Apart xs′ ys′ ds′
-  pub does : (m : Mine) → gravityOf (whole m px py g f (joined xs ys ds) s) ≡ whole m px py g′ f′ (joined xs′ ys′ ds′) r
+  pub does : (m : Mine) → rule (whole m px py g f (joined xs ys ds) s) ≡ whole m px py g′ f′ (joined xs′ ys′ ds′) r

@@ -272,7 +272,7 @@ pub fn gravity_on(
     py: usize,
 ) -> Fallen
     requires { ⌜ Falling (now grid) (now falling) (now xs) (now ys) (now dirs) s px py ⌝ }
-    ensures { λ r. ⌜ Dropped px py (now (grid .entry)) (now (falling .entry)) (now (xs .entry)) (now (ys .entry)) (now (dirs .entry)) s (now (grid .exit)) (now (falling .exit)) (now (xs .exit)) (now (ys .exit)) (now (dirs .exit)) r ⌝ }
+    ensures { λ r. ⌜ Dropped gravityOf px py (now (grid .entry)) (now (falling .entry)) (now (xs .entry)) (now (ys .entry)) (now (dirs .entry)) s (now (grid .exit)) (now (falling .exit)) (now (xs .exit)) (now (ys .exit)) (now (dirs .exit)) r ⌝ }
 {
     let mut count = s.count;
     let mut coins = s.coins;

@@ -1,17 +1,17 @@
 -- What a move's numbers make of a state, rule by rule. Assumes nothing.
-use mathlib.Core.Bool.{true}
+use mathlib.Core.Bool.{Bool, true}
 use mathlib.Core.List.{List}
 use mathlib.Core.Path.{_≡_, sym, ap, _∙_}
-use Prim.Native.Nat.{ℕ, _<_, _+_}
+use Prim.Native.Nat.{ℕ, _+_}
 use lib.ListN.{set}
+use Rattle.found.specs.declared.Found.{Found}
 use lib.Seq.{set-getD}
 use Rattle.mine_state.specs.declared.Mine.{Mine}
-use Rattle.mine_state.specs.State.{W, H, EMPTY, BOULDER, place, emptyAt, codeIn, firstAt, freeAt}
-use Rattle.mine_state.specs.Spots.{firstSpot, freeSpot}
+use Rattle.mine_state.specs.State.{EMPTY, BOULDER, place, emptyAt, codeIn, firstAt, freeAt}
 use Rattle.mine_state.specs.Change.{withGrid, withCell, entered, killed, winner}
 use Rattle.mine_state.proofs.Cells.{empty-code}
-use Rattle.mine_state.proofs.Places.{first-spot, free-spot}
 use Rattle.mine_rules.specs.Move.{collected}
+use Rattle.mine_apart.specs.Apart.{Sees, Frees}
 use Rattle.mine_moves.specs.declared.moves.Move.{Move}
 use Rattle.mine_moves.specs.Steps.{gone, applied, Plays}
 
@@ -32,7 +32,7 @@ pushing s bx by = record { px = s .px; py = s .py; coins = s .coins; needed = s 
 kept : (m : Mine) → emptyAt (m .grid) (m .px) (m .py) ≡ true → set (m .grid) (place (m .px) (m .py)) EMPTY ≡ m .grid
 kept m e = ap (set (m .grid) (place (m .px) (m .py))) (sym (empty-code (m .grid) (m .px) (m .py) e)) ∙ set-getD (m .grid) (place (m .px) (m .py)) EMPTY
 
-module _ {m : Mine} {g spots : List ℕ} {s : Move} (p : Plays m g spots s) where
+module _ {m : Mine} {g xs ys : List ℕ} {n : ℕ} {s : Move} (p : Plays m g xs ys n s) where
   own : set (m .grid) (place (m .px) (m .py)) EMPTY ≡ m .grid
   own = kept m (p .empty)
 
@@ -61,11 +61,11 @@ module _ {m : Mine} {g spots : List ℕ} {s : Move} (p : Plays m g spots s) wher
   shoved x y bx by = ap (λ (t : Move). applied m (pushing (gone t x y) bx by)) (p .stays)
 
   -- who is there, and whether a cell is free, by the lent grid and places
-  pub asked : (x y : ℕ) → x < W → y < H → firstSpot (place x y) spots ≡ firstAt m x y
-  asked x y hx hy = first-spot (p .stand .spotted) x y hx hy
+  pub asked : (x y : ℕ) {r : Found} → Sees xs ys n x y r → r ≡ firstAt m x y
+  asked x y see = see (p .ways) (p .each) ∙ ap (λ (t : Mine). firstAt t x y) (sym (p .same))
 
   pub code : (x y : ℕ) → codeIn (m .grid) x y ≡ codeIn g x y
-  code x y = ap (λ (l : List ℕ). codeIn l x y) (p .same)
+  code x y = ap (λ (t : Mine). codeIn (t .grid) x y) (p .same)
 
-  pub freed : (x y : ℕ) → freeAt m x y ≡ freeSpot g spots (s .at) x y
-  freed x y = sym (free-spot (p .stand) x y) ∙ ap (λ (l : List ℕ). freeSpot l spots (s .at) x y) (p .same)
+  pub freed : (x y : ℕ) {r : Bool} → Frees g xs ys n (s .px) (s .py) x y r → freeAt m x y ≡ r
+  freed x y free = ap (λ (t : Mine). freeAt t x y) (p .same) ∙ sym (free m (p .ways) (p .each))

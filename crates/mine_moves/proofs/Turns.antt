@@ -27,9 +27,9 @@ use Rattle.mine_rules.specs.declared.Step.the-variants.{Goes, Stays}
 use Rattle.mine_rules.specs.Ways.{nextCell, OnGrid}
 use Rattle.mine_rules.specs.Tick.{goesTo, wayOf, turns, orElse, chosen, stepped, tickOne, ticked}
 use Rattle.mine_rules.proofs.Next.{next-inside}
-use Rattle.mine_apart.specs.Apart.{joined, Apart}
+use Rattle.mine_apart.specs.Apart.{joined, standing, Apart}
 use Rattle.mine_apart.proofs.Joined.{joined-at, joined-set}
-use Rattle.mine_moves.specs.Steps.{standing, deadIf}
+use Rattle.mine_moves.specs.Steps.{deadIf}
 
 -- the cell ahead, as the code asks for it
 module _ (m : Mine) {g : List ℕ} {es : List Enemy} {n : ℕ} (same : m .grid ≡ g) (them : m .enemies ≡ es) (many : m .count ≡ n) (d x y : ℕ) (on : OnGrid x y) where

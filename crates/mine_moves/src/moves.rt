@@ -1,9 +1,12 @@
-// The player's move.
+// The player's move: in place, on the lent grid and the creatures taken apart, and on a state.
 //
-// What a move does is told as numbers, over the lent grid and the creatures' places; the state is copied
-// once, and every move changes it by the same stores.
+// What a move does is told as numbers, and every move changes the grid by the same stores.
 use crate::ways::next_cell;
 use found::Found;
+use mine_apart::enemy_at;
+use mine_apart::free;
+use mine_apart::xs_of;
+use mine_apart::ys_of;
 use mine_rules::Ahead;
 use mine_rules::LEFT;
 use mine_rules::RIGHT;
@@ -18,13 +21,21 @@ use mine_state::Mine;
 use mine_state::W;
 use mine_state::WALL;
 use mine_state::at;
-use mine_state::enemy_at;
-use mine_state::free;
-use mine_state::spots_of;
 ghost use mathlib.Core.Path.{_≡_};
 ghost use Rattle.mine_state.specs.WellFormed.{WellFormed};
 ghost use Rattle.mine_rules.specs.Move.{pushed, met, moved};
-ghost use Rattle.mine_moves.specs.Steps.{Lends, Meets, Makes, Inside, gone};
+ghost use Rattle.mine_moves.specs.Steps.{Lends, Meets, Makes, Inside, gone, Stands, Steps};
+
+// The player's part of a state.
+#[repr(C)]
+pub struct Player {
+    pub px: usize,
+    pub py: usize,
+    pub coins: u32,
+    pub needed: u32,
+    pub dead: bool,
+    pub won: bool,
+}
 
 // The player's part of a state, and one cell with its code. The player's own cell is empty besides.
 pub struct Move {
@@ -51,14 +62,16 @@ fn go(s: Move, x: usize, y: usize) -> Move
 // Only a horizontal shove, and only into a free cell beyond. `s` is what staying is.
 fn push(
     grid: &[u8; AREA],
-    spots: &[usize; MAX_ENEMIES],
+    xs: &[usize; MAX_ENEMIES],
+    ys: &[usize; MAX_ENEMIES],
+    count: usize,
     s: Move,
     dir: u8,
     x: usize,
     y: usize,
 ) -> Move
-    requires { ⌜ Meets (now grid) (now spots) s x y ⌝ }
-    ensures { λ r. ⌜ Makes (now (grid .entry)) (now (spots .entry)) s r (λ m. pushed m dir x y) × Inside r ⌝ }
+    requires { ⌜ Meets (now grid) (now xs) (now ys) count s x y ⌝ }
+    ensures { λ r. ⌜ Makes (now (grid .entry)) (now (xs .entry)) (now (ys .entry)) count s r (λ m. pushed m dir x y) × Inside r ⌝ }
 {
     let sideways = (dir == RIGHT) | (dir == LEFT);
     if !sideways {
@@ -67,7 +80,7 @@ fn push(
     let Ahead::Cell(bx, by) = next_cell(dir, x, y) else {
         return s;
     };
-    if !free(grid, spots, s.at, bx, by) {
+    if !free(grid, xs, ys, count, s.px, s.py, bx, by) {
         return s;
     }
     let mut to = go(s, x, y);
@@ -79,14 +92,16 @@ fn push(
 // What the player meets at (x, y): dug, collected, pushed, or left as it is.
 fn meet(
     grid: &[u8; AREA],
-    spots: &[usize; MAX_ENEMIES],
+    xs: &[usize; MAX_ENEMIES],
+    ys: &[usize; MAX_ENEMIES],
+    count: usize,
     s: Move,
     dir: u8,
     x: usize,
     y: usize,
 ) -> Move
-    requires { ⌜ Meets (now grid) (now spots) s x y ⌝ }
-    ensures { λ r. ⌜ Makes (now (grid .entry)) (now (spots .entry)) s r (λ m. met m dir x y) × Inside r ⌝ }
+    requires { ⌜ Meets (now grid) (now xs) (now ys) count s x y ⌝ }
+    ensures { λ r. ⌜ Makes (now (grid .entry)) (now (xs .entry)) (now (ys .entry)) count s r (λ m. met m dir x y) × Inside r ⌝ }
 {
     let t = at(grid, x, y);
     match t {
@@ -106,53 +121,93 @@ fn meet(
             to.coins = s.coins + 1;
             to
         }
-        BOULDER => push(grid, spots, s, dir, x, y),
+        BOULDER => push(grid, xs, ys, count, s, dir, x, y),
         _ => s,
     }
 }
 
 // Off the grid, nothing; a creature there kills.
-fn decide(grid: &[u8; AREA], spots: &[usize; MAX_ENEMIES], s: Move, dir: u8) -> Move
-    requires { ⌜ Lends (now grid) (now spots) s ⌝ }
-    ensures { λ r. ⌜ Makes (now (grid .entry)) (now (spots .entry)) s r (λ m. moved m dir) × Inside r ⌝ }
+fn decide(
+    grid: &[u8; AREA],
+    xs: &[usize; MAX_ENEMIES],
+    ys: &[usize; MAX_ENEMIES],
+    count: usize,
+    s: Move,
+    dir: u8,
+) -> Move
+    requires { ⌜ Lends (now grid) (now xs) (now ys) count s ⌝ }
+    ensures { λ r. ⌜ Makes (now (grid .entry)) (now (xs .entry)) (now (ys .entry)) count s r (λ m. moved m dir) × Inside r ⌝ }
 {
     let Ahead::Cell(x, y) = next_cell(dir, s.px, s.py) else {
         return s;
     };
-    if let Found::At(_) = enemy_at(spots, y * W + x) {
+    if let Found::At(_) = enemy_at(xs, ys, count, x, y) {
         let mut to = s;
         to.dead = true;
         return to;
     }
-    meet(grid, spots, s, dir, x, y)
+    meet(grid, xs, ys, count, s, dir, x, y)
 }
 
-// Move the player by one step, digging, collecting, or pushing as the target allows.
+// Move the player by one step, in place, digging, collecting, or pushing as the target allows.
+pub fn step_on(
+    grid: &mut [u8; AREA],
+    xs: &[usize; MAX_ENEMIES],
+    ys: &[usize; MAX_ENEMIES],
+    count: usize,
+    p: Player,
+    dir: u8,
+) -> Player
+    requires { ⌜ Stands (now grid) (now xs) (now ys) count p ⌝ }
+    ensures { λ r. ⌜ Steps (now (grid .entry)) (now (xs .entry)) (now (ys .entry)) count p dir (now (grid .exit)) r ⌝ }
+{
+    let s = Move {
+        px: p.px,
+        py: p.py,
+        coins: p.coins,
+        needed: p.needed,
+        dead: p.dead,
+        won: p.won,
+        at: p.py * W + p.px,
+        code: EMPTY,
+    };
+    let to = decide(grid, xs, ys, count, s, dir);
+    let cell = to.at;
+    let home = to.py * W + to.px;
+    grid[cell] = to.code;
+    grid[home] = EMPTY;
+    Player {
+        px: to.px,
+        py: to.py,
+        coins: to.coins,
+        needed: p.needed,
+        dead: to.dead,
+        won: to.won,
+    }
+}
+
+// Move the player by one step.
 pub fn step_player(m: Mine, dir: u8) -> Mine
     requires { ⌜ WellFormed m ⌝ }
     ensures { λ r. ⌜ r ≡ moved m dir ⌝ }
 {
-    let mut next = m;
     let enemies = m.enemies;
-    let spots = spots_of(enemies, m.count);
-    let s = Move {
+    let xs = xs_of(enemies);
+    let ys = ys_of(enemies);
+    let p = Player {
         px: m.px,
         py: m.py,
         coins: m.coins,
         needed: m.needed,
         dead: m.dead,
         won: m.won,
-        at: m.py * W + m.px,
-        code: EMPTY,
     };
-    let to = decide(&next.grid, &spots, s, dir);
-    let cell = to.at;
-    let home = to.py * W + to.px;
-    next.grid[cell] = to.code;
-    next.grid[home] = EMPTY;
+    let mut next = m;
+    let to = step_on(&mut next.grid, &xs, &ys, m.count, p, dir);
     next.px = to.px;
     next.py = to.py;
     next.coins = to.coins;
+    next.needed = to.needed;
     next.dead = to.dead;
     next.won = to.won;
     next

@@ -9,28 +9,17 @@ ghost use mathlib.Core.Path.{_≡_};
 ghost use Rattle.mine_rules.specs.Ways.{nextCell, OnGrid};
 ghost use Rattle.mine_moves.specs.Steps.{rightOf, downOf};
 
-// One more than what a step adds to x.
+// One more than what a step adds to x, and to y. Without a branch: a creature tries every direction.
 fn rightward(dir: u8) -> usize
     ensures { λ r. ⌜ r ≡ rightOf dir ⌝ }
 {
-    match dir {
-        UP => 1,
-        RIGHT => 2,
-        DOWN => 1,
-        _ => 0,
-    }
+    1 + (dir == RIGHT) as usize - (DOWN < dir) as usize
 }
 
-// One more than what a step adds to y.
 fn downward(dir: u8) -> usize
     ensures { λ r. ⌜ r ≡ downOf dir ⌝ }
 {
-    match dir {
-        UP => 0,
-        RIGHT => 1,
-        DOWN => 2,
-        _ => 1,
-    }
+    1 + (dir == DOWN) as usize - (dir == UP) as usize
 }
 
 // One step from (x, y) in the direction dir.

@@ -17,11 +17,11 @@ use Rattle.mine_pass.specs.declared.MineTurn.{MineTurn}
 use Rattle.mine_pass.specs.Pass.{GRAVITY-CYCLES, ENEMY-CYCLES, played, still, afterKeys, passOn, passAt}
 
 module _ (first second time : ℕ) (p : Played) where
-  after-quit : p .quit ≡ true → still first second NONE Quit (p .game) ≡ afterKeys first second time p
+  pub after-quit : p .quit ≡ true → still first second NONE Quit (p .game) ≡ afterKeys first second time p
   unfolding afterKeys
   after-quit k = rw k
 
-  after-ticks : p .quit ≡ false → {due : Ticks} → due ≡ ticked time first second GRAVITY-CYCLES ENEMY-CYCLES
+  pub after-ticks : p .quit ≡ false → {due : Ticks} → due ≡ ticked time first second GRAVITY-CYCLES ENEMY-CYCLES
       → {fallen : Mine} → fallen ≡ cond (due .one) (gravityOf (p .game)) (p .game) → {game : Mine} → game ≡ cond (due .two) (Tick.ticked fallen) fallen
       → record { first = due .first; second = due .second; passed = record { refusal = NONE; answer = GoingOn; game = game } } ≡ afterKeys first second time p
   unfolding afterKeys
@@ -47,19 +47,6 @@ module _ (m : Mine) (keys : List ℕ) (time first second : ℕ) where
       unfolding passAt passOn
       dead-pass d = rw (none, w, d)
 
-      after-keys : m .dead ≡ false → afterKeys first second time (played m keys) ≡ passAt m keys time first second
+      pub after-keys : m .dead ≡ false → afterKeys first second time (played m keys) ≡ passAt m keys time first second
       unfolding passAt passOn
       after-keys d = rw (none, w, d)
-
-      -- p is what the keys make of the state
-      module _ (d : m .dead ≡ false) {p : Played} (q : p ≡ played m keys) where
-        keyed-pass : afterKeys first second time p ≡ passAt m keys time first second
-        keyed-pass = ap (afterKeys first second time) q ∙ after-keys d
-
-        pub quit-pass : p .quit ≡ true → still first second NONE Quit (p .game) ≡ passAt m keys time first second
-        quit-pass k = after-quit first second time p k ∙ keyed-pass
-
-        pub ticks-pass : p .quit ≡ false → {due : Ticks} → due ≡ ticked time first second GRAVITY-CYCLES ENEMY-CYCLES
-            → {fallen : Mine} → fallen ≡ cond (due .one) (gravityOf (p .game)) (p .game) → {game : Mine} → game ≡ cond (due .two) (Tick.ticked fallen) fallen
-            → record { first = due .first; second = due .second; passed = record { refusal = NONE; answer = GoingOn; game = game } } ≡ passAt m keys time first second
-        ticks-pass k t f g = after-ticks first second time p k t f g ∙ keyed-pass

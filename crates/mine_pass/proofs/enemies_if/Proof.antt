@@ -1,16 +1,19 @@
 -- `mine_pass::enemies_if` meets its contract. Assumes nothing.
+use mathlib.Core.Path.{refl}
 use borrow.Author.Needs.{needs}
 use Rattle.mine_pass.proofs.enemies_if.Statement.{statement}
 use Rattle.mine_pass.proofs.enemies_if.Tie as tie
 
-move-enemies-requires : tie.Need-move-enemies-requires
-move-enemies-requires c κs = search needs
+tick-on-requires : tie.Need-tick-on-requires
+tick-on-requires c κs = search needs
 
 returns : tie.Need-returns
-returns c = rw (c .before .if1 .taken) (c .«move-enemies» .ensures)
+returns c =
+    let e = c .«tick-on» .ensures in
+    record { parts = e .parts; does = λ m. rw (c .before .before .before .before .if1 .taken) (e .does m) }
 
 returns-2 : tie.Need-returns-2
-returns-2 c = search needs
+returns-2 c = record { parts = c .before .pre .parts; does = λ m. rw (c .if1 .left) refl }
 
 pub enemies-if-spec : {M : Type 1} → statement M
-enemies-if-spec = tie.close (tie.spec move-enemies-requires returns returns-2)
+enemies-if-spec = tie.close (tie.spec tick-on-requires returns returns-2)

@@ -1,17 +1,19 @@
 -- `mine_pass::gravity_if` meets its contract. Assumes nothing.
+use mathlib.Core.Path.{refl}
 use borrow.Author.Needs.{needs}
-use Rattle.mine_state.proofs.Facts.{sound}
 use Rattle.mine_pass.proofs.gravity_if.Statement.{statement}
 use Rattle.mine_pass.proofs.gravity_if.Tie as tie
 
-gravity-requires : tie.Need-gravity-requires
-gravity-requires c κs = sound _ (c .before .pre)
+gravity-on-requires : tie.Need-gravity-on-requires
+gravity-on-requires c κs = search needs
 
 returns : tie.Need-returns
-returns c = rw (c .before .if1 .taken) (c .«gravity» .ensures)
+returns c =
+    let e = c .«gravity-on» .ensures in
+    record { parts = e .parts; does = λ m. rw (c .before .before .before .before .before .before .if1 .taken) (e .does m) }
 
 returns-2 : tie.Need-returns-2
-returns-2 c = search needs
+returns-2 c = record { parts = c .before .pre .parts; does = λ m. rw (c .if1 .left) refl }
 
 pub gravity-if-spec : {M : Type 1} → statement M
-gravity-if-spec = tie.close (tie.spec gravity-requires returns returns-2)
+gravity-if-spec = tie.close (tie.spec gravity-on-requires returns returns-2)

@@ -1,24 +1,31 @@
 -- `mine_pass::play` meets its contract: what is left of the keys makes of the state what all of them make. Assumes nothing.
-use mathlib.Core.Path.{_≡_, refl}
+use mathlib.Core.Bool.{Bool}
+use mathlib.Core.List.{List}
+use mathlib.Core.Path.{_≡_, refl, sym, subst}
 use Prim.Native.Nat.{ℕ, _≤_, _-_}
 use native.Mathlib.Omega.{arith}
 use lib.ListN.{length, drop, drop-of-length-le}
 use borrow.Author.Tests.{eq-eqb, ne-eqb}
 use Rattle.laws.proofs.Lists.{drop-one}
+use Rattle.mine_state.specs.State.{MAX-ENEMIES}
 use Rattle.mine_state.specs.WellFormed.{WellFormed}
+use Rattle.mine_apart.specs.Apart.{joined}
+use Rattle.mine_moves.specs.Steps.{playing}
 use Rattle.mine_pass.specs.Pass.{KEY-QUIT, played}
-use Rattle.mine_pass.proofs.Keys.{keys-more, keys-quit, keys-end, key-kept}
+use Rattle.mine_pass.specs.Parts.{Ready}
+use Rattle.mine_pass.proofs.Keys.{keys-turn, keys-quit, keys-end, key-kept}
 use Rattle.mine_pass.proofs.play.Statement.{statement}
 use Rattle.mine_pass.proofs.play.Tie as tie
 
 abbrev Inv-loop : tie.InvT-loop
-Inv-loop keys game₀ i₀ game i = (i ≤ length keys) × WellFormed game × (played game (drop i keys) ≡ played game₀ keys)
+Inv-loop grid₀ xs ys count keys to₀ i₀ grid to i =
+    (i ≤ length keys) × Ready grid xs ys count to × ((f : List Bool) (ds : List ℕ) → length ds ≡ MAX-ENEMIES → played (playing f grid (joined xs ys ds) count to) (drop i keys) ≡ played (playing f grid₀ (joined xs ys ds) count to₀) keys)
 
 abbrev μ-loop : tie.MeasureT-loop
-μ-loop keys game₀ i₀ game i = length keys - i
+μ-loop grid₀ xs ys count keys to₀ i₀ grid to i = length keys - i
 
 loop-holds : tie.Need-loop-holds Inv-loop μ-loop
-loop-holds c = (omega arith, c .before .pre, refl)
+loop-holds c = (omega arith, c .before .pre, λ f ds l. refl)
 
 shared-slice-read-key : tie.Need-shared-slice-read-key Inv-loop μ-loop
 shared-slice-read-key c = omega arith
@@ -27,10 +34,10 @@ returns : tie.Need-returns Inv-loop μ-loop
 returns c =
     let k = c .before .before .before in
     let keys = k .before .before .args .keys .now in
-    keys-quit (k .loop .game) keys (k .loop .i) (drop-one keys (k .loop .i) 0 (omega arith)) (k .loop .inv .2) (eq-eqb _ KEY-QUIT (c .if1 .taken))
+    λ f ds l. sym (keys-quit _ keys (k .loop .i) (drop-one keys (k .loop .i) 0 (omega arith)) (k .loop .inv .2 f ds l) (eq-eqb _ KEY-QUIT (c .if1 .taken)))
 
 press-requires : tie.Need-press-requires Inv-loop μ-loop
-press-requires c κs = c .before .before .before .loop .inv .1
+press-requires c κs = c .before .before .before .before .loop .inv .1
 
 add-i : tie.Need-add-i Inv-loop μ-loop
 add-i c = omega arith
@@ -40,29 +47,21 @@ loop-less c = omega arith
 
 loop-again : tie.Need-loop-again Inv-loop μ-loop
 loop-again c =
-    let k = c .before .before .before .before in
+    let k = c .before .before .before .before .before in
     let keys = k .before .before .args .keys .now in
-    let s = k .loop .game in
-    let more = keys-more s keys (k .loop .i) (drop-one keys (k .loop .i) 0 (omega arith)) (k .loop .inv .2) (ne-eqb _ KEY-QUIT (c .before .if1 .left)) in
-    rw (c .press .ensures) (omega arith, key-kept s _ (k .loop .inv .1) .formed, more)
+    let r = k .loop .inv .1 in
+    let i = k .loop .i in
+    let e = c .press .ensures in (
+      omega arith,
+      record { marks = r .marks; ways = r .ways; parts = r .parts; formed = subst WellFormed (e (r .marks) (r .ways) (r .parts .ways)) (key-kept _ _ (r .formed) .formed) },
+      λ f ds l. keys-turn _ keys i (drop-one keys i 0 (omega arith)) (k .loop .inv .2 f ds l) (ne-eqb _ KEY-QUIT (c .before .before .if1 .left)) (e f ds l),
+    )
 
 returns-2 : tie.Need-returns-2 Inv-loop μ-loop
 returns-2 c =
     let k = c .before in
     let keys = k .before .before .args .keys .now in
-    keys-end (k .loop .game) keys (k .loop .i) (drop-of-length-le keys {i = k .loop .i} (omega arith)) (k .loop .inv .2)
+    λ f ds l. sym (keys-end _ keys (k .loop .i) (drop-of-length-le keys {i = k .loop .i} (omega arith)) (k .loop .inv .2 f ds l))
 
 pub play-spec : {M : Type 1} → statement M
-play-spec =
-    tie.close
-    (tie.spec
-    Inv-loop
-    μ-loop
-    loop-holds
-    shared-slice-read-key
-    returns
-    press-requires
-    add-i
-    loop-less
-    loop-again
-    returns-2)
+play-spec = tie.close (tie.spec Inv-loop μ-loop loop-holds shared-slice-read-key returns press-requires add-i loop-less loop-again returns-2)

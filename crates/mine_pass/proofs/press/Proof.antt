@@ -1,54 +1,35 @@
 -- `mine_pass::press` meets its contract. Assumes nothing.
+use native.Mathlib.Omega.{arith}
 use borrow.Author.Needs.{needs}
-use borrow.Author.Tests.{ne-eqb}
-use Rattle.mine_pass.specs.Pass.{keyed}
+use Rattle.mine_state.proofs.Facts.{sound}
+use Rattle.mine_rules.proofs.Next.{home}
+use Rattle.mine_pass.proofs.Keys.{key-moves, key-stays}
 use Rattle.mine_pass.proofs.press.Statement.{statement}
 use Rattle.mine_pass.proofs.press.Tie as tie
 
-step-player-requires : tie.Need-step-player-requires
-step-player-requires c κs = search needs
+dir-of-requires : tie.Need-dir-of-requires
+dir-of-requires c κs = search needs
 
-step-player-requires-2 : tie.Need-step-player-requires-2
-step-player-requires-2 c κs = search needs
-
-step-player-requires-3 : tie.Need-step-player-requires-3
-step-player-requires-3 c κs = search needs
-
-step-player-requires-4 : tie.Need-step-player-requires-4
-step-player-requires-4 c κs = search needs
+step-on-requires : tie.Need-step-on-requires
+step-on-requires c κs =
+    let r = c .before .before .before .pre in
+    let w = sound _ (r .formed) in
+    record {
+      lent = record { cells = w .cells; people = record { across = r .parts .across; down = r .parts .down; few = w .few } };
+      home = home w;
+      empty = r .formed .player;
+      purse = omega (arith, w .coins);
+    }
 
 returns : tie.Need-returns
-unfolding keyed
-returns c = rw (c .before .match .keys1) (c .«step-player» .ensures)
+returns c =
+    let d = c .before .before .before in
+    λ f ds l. key-moves _ (d .before .args .key) (d .«dir-of» .ensures) (c .before .before .if1 .taken) (c .«step-on» .ensures f ds l)
 
 returns-2 : tie.Need-returns-2
-unfolding keyed
-returns-2 c = rw (c .before .match .keys2) (c .«step-player2» .ensures)
-
-returns-3 : tie.Need-returns-3
-unfolding keyed
-returns-3 c = rw (c .before .match .keys3) (c .«step-player3» .ensures)
-
-returns-4 : tie.Need-returns-4
-unfolding keyed
-returns-4 c = rw (c .before .match .keys4) (c .«step-player4» .ensures)
-
-returns-5 : tie.Need-returns-5
-unfolding keyed
-returns-5 c =
-    let r = c .match .rest in
-    simp (ne-eqb _ _ (r .0 .0 .0 .1), ne-eqb _ _ (r .0 .0 .1), ne-eqb _ _ (r .0 .1), ne-eqb _ _ (r .1))
+returns-2 c =
+    let d = c .before in
+    λ f ds l. key-stays _ (d .before .args .key) (d .«dir-of» .ensures) (c .if1 .left)
 
 pub press-spec : {M : Type 1} → statement M
-press-spec =
-    tie.close
-    (tie.spec
-    step-player-requires
-    step-player-requires-2
-    step-player-requires-3
-    step-player-requires-4
-    returns
-    returns-2
-    returns-3
-    returns-4
-    returns-5)
+press-spec = tie.close (tie.spec dir-of-requires step-on-requires returns returns-2)

@@ -1,5 +1,4 @@
 use mathlib.Core.Path.{sym, _∙_, ap}
-use native.Mathlib.Omega.{arith}
 use borrow.Author.Needs.{needs}
 use Rattle.mine_rules.specs.Ways.{OnGrid, nextCell}
 use Rattle.mine_rules.specs.Move.{moved}
@@ -12,7 +11,7 @@ use Rattle.mine_moves.proofs.moves.decide.Reads as reads
 use Rattle.mine_moves.proofs.moves.decide.Lts as lts
 use Rattle.mine_moves.proofs.moves.meet.Reads as meet-reads
 use Rattle.mine_moves.proofs.ways.next_cell.Reads as next-cell-reads
-use Rattle.mine_state.proofs.enemy_at.Reads as enemy-at-reads
+use Rattle.mine_apart.proofs.enemy_at.Reads as enemy-at-reads
 
 -- what is known once the cell ahead is on the grid
 abbrev Ahead : Type 0
@@ -40,12 +39,6 @@ returns c =
     let a = n .before in
     (λ m p. stayed p ∙ simp (ap (λ (t : Move). nextCell (a .args .dir) (t .px) (t .py)) (sym (p .stays)) ∙ sym (n .next-cell .ensures) ∙ c .enum-told .given .1), a .pre .inside)
 
-mul-enemy-at : tie.Need-mul-enemy-at
-mul-enemy-at c = omega (arith, there (c .before) .down)
-
-add-enemy-at : tie.Need-add-enemy-at
-add-enemy-at c = omega (arith, there (c .before) .across, there (c .before) .down)
-
 enemy-at-requires : tie.Need-enemy-at-requires
 enemy-at-requires c κs = search needs
 
@@ -59,8 +52,7 @@ returns-2 c =
     let b = f .before .before in
     let n = b .before .before in
     let a = n .before in
-    let o = there b in
-    (λ m p. died p ∙ simp (ap (λ (t : Move). nextCell (a .args .dir) (t .px) (t .py)) (sym (p .stays)) ∙ sym (n .next-cell .ensures) ∙ b .x .given .1, sym (asked p _ _ (o .across) (o .down)) ∙ sym (f .enemy-at .ensures) ∙ c .enum-told2 .given .1), record { cell = a .pre .inside .cell; home = a .pre .inside .home })
+    (λ m p. died p ∙ simp (ap (λ (t : Move). nextCell (a .args .dir) (t .px) (t .py)) (sym (p .stays)) ∙ sym (n .next-cell .ensures) ∙ b .x .given .1, sym (asked p _ _ (f .enemy-at .ensures)) ∙ c .enum-told2 .given .1), record { cell = a .pre .inside .cell; home = a .pre .inside .home })
 
 enum-told-3 : tie.Need-enum-told-3
 enum-told-3 c = search needs
@@ -77,8 +69,7 @@ returns-3 c =
     let b = f .before .before in
     let n = b .before .before in
     let a = n .before in
-    let o = there b in
-    (λ m p. c .meet .ensures .0 m p ∙ simp (ap (λ (t : Move). nextCell (a .args .dir) (t .px) (t .py)) (sym (p .stays)) ∙ sym (n .next-cell .ensures) ∙ b .x .given .1, sym (asked p _ _ (o .across) (o .down)) ∙ sym (f .enemy-at .ensures) ∙ c .before .enum-told3 .given .1), c .meet .ensures .1)
+    (λ m p. c .meet .ensures .0 m p ∙ simp (ap (λ (t : Move). nextCell (a .args .dir) (t .px) (t .py)) (sym (p .stays)) ∙ sym (n .next-cell .ensures) ∙ b .x .given .1, sym (asked p _ _ (f .enemy-at .ensures)) ∙ c .before .enum-told3 .given .1), c .meet .ensures .1)
 
 pub decide-spec : {M : Type 1} → statement M
 decide-spec =
@@ -88,8 +79,6 @@ decide-spec =
     enum-known-x
     enum-told
     returns
-    mul-enemy-at
-    add-enemy-at
     enemy-at-requires
     enum-told-2
     returns-2

@@ -1,57 +1,45 @@
-use mathlib.Core.Path.{refl}
+use mathlib.Core.List.{List, map}
+use mathlib.Core.Path.{_≡_, refl, sym, _∙_, ap}
 use native.Mathlib.Omega.{arith}
 use borrow.Author.Needs.{needs}
-use Rattle.mine_state.proofs.Facts.{sound, stands}
+use Rattle.mine_state.specs.declared.Enemy.{Enemy}
+use Rattle.mine_state.proofs.Facts.{sound}
+use Rattle.mine_rules.specs.Move.{moved}
 use Rattle.mine_rules.proofs.Next.{home}
+use Rattle.mine_apart.specs.Apart.{dirOf}
+use Rattle.mine_apart.proofs.Joined.{joined-of, apart-of}
+use Rattle.mine_moves.specs.Steps.{playing}
 use Rattle.mine_moves.proofs.moves.step_player.Statement.{statement}
 use Rattle.mine_moves.proofs.moves.step_player.Tie as tie
 
-spots-of-requires : tie.Need-spots-of-requires
-spots-of-requires c κs = let s = c .before in sound (s .args .m) (s .pre) .placed
+xs-of-requires : tie.Need-xs-of-requires
+xs-of-requires c κs = search needs
 
-mul-t11 : tie.Need-mul-t11
-mul-t11 c = let s = c .before .before .before in omega (arith, sound (s .args .m) (s .pre) .home)
+ys-of-requires : tie.Need-ys-of-requires
+ys-of-requires c κs = search needs
 
-add-t12 : tie.Need-add-t12
-add-t12 c = let s = c .before .before .before .before in omega (arith, sound (s .args .m) (s .pre) .home)
-
-decide-requires : tie.Need-decide-requires
-decide-requires c κs =
-    let s = c .before .before .before .before .before .before .before in
-    let w = sound (s .args .m) (s .pre) in
-    let h = home w in
-    record { lent = record { cells = w .cells; slots = search needs }; inside = record { cell = omega (arith, h .across, h .down); home = h }; purse = omega (arith, w .coins) }
-
-mul-home : tie.Need-mul-home
-mul-home c = omega (arith, c .before .decide .ensures .1 .home .down)
-
-add-home : tie.Need-add-home
-add-home c = let i = c .before .before .decide .ensures .1 .home in omega (arith, i .across, i .down)
-
-element-write-next : tie.Need-element-write-next
-element-write-next c = c .before .before .decide .ensures .1 .cell
-
-element-write-next-2 : tie.Need-element-write-next-2
-element-write-next-2 c = let i = c .before .before .decide .ensures .1 .home in omega (arith, i .across, i .down)
+step-on-requires : tie.Need-step-on-requires
+step-on-requires c κs =
+    let y = c .before .before .before in
+    let s = y .before .before .before in
+    let m = s .args .m in
+    let w = sound m (s .pre) in
+    let a = apart-of (m .enemies) (w .slots) (y .before .xs-of .ensures) (y .ys-of .ensures) refl in
+    record { lent = record { cells = w .cells; people = record { across = a .across; down = a .down; few = w .few } }; home = home w; empty = s .pre .player; purse = omega (arith, w .coins) }
 
 returns : tie.Need-returns
 returns c =
-    let d = c .before .before in
-    let p = d .before .before .before .before .before .before in
-    let s = p .before .before in
+    let y = c .before .before .before .before in
+    let s = y .before .before .before in
     let m = s .args .m in
-    d .decide .ensures .0 m (record { same = refl; stand = stands m (sound m (s .pre)) (p .spots-of .ensures); empty = s .pre .player; stays = refl })
+    let ds = map dirOf (m .enemies) in
+    let u = y .before .xs-of .ensures in
+    let v = y .ys-of .ensures in
+    let q = joined-of (m .enemies) u v refl in
+    let p = playing (m .falling) in
+    ap (λ (es : List Enemy). p (c .step-on .last .0) es (m .count) (c .step-on .result)) (sym q)
+    ∙ sym (c .step-on .ensures (m .falling) ds (apart-of (m .enemies) (sound m (s .pre) .slots) u v refl .ways))
+    ∙ ap (λ (es : List Enemy). moved (p (m .grid) es (m .count) (record { px = m .px; py = m .py; coins = m .coins; needed = m .needed; dead = m .dead; won = m .won })) (s .args .dir)) q
 
 pub step-player-spec : {M : Type 1} → statement M
-step-player-spec =
-    tie.close
-    (tie.spec
-    spots-of-requires
-    mul-t11
-    add-t12
-    decide-requires
-    mul-home
-    add-home
-    element-write-next
-    element-write-next-2
-    returns)
+step-player-spec = tie.close (tie.spec xs-of-requires ys-of-requires step-on-requires returns)

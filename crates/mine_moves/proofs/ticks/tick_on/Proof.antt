@@ -5,8 +5,7 @@ use borrow.Author.Needs.{needs}
 use Rattle.mine_state.specs.declared.Mine.{Mine}
 use Rattle.mine_rules.specs.declared.Step.{Step}
 use Rattle.mine_rules.specs.Tick.{turns, chosen, ticked}
-use Rattle.mine_apart.specs.Apart.{joined}
-use Rattle.mine_moves.specs.Steps.{standing}
+use Rattle.mine_apart.specs.Apart.{joined, standing}
 use Rattle.mine_moves.proofs.Turns.{Between, begins, ends, here, state, here-on-map, stays, walks, catches}
 use Rattle.mine_moves.proofs.ticks.tick_on.Statement.{statement}
 use Rattle.mine_moves.proofs.ticks.tick_on.Tie as tie

@@ -1,0 +1,34 @@
+-- What the keys of a pass ask of the lent parts of a state, and what they do to them. No promise cites it.
+use mathlib.Core.Bool.{Bool, cond}
+use mathlib.Core.List.{List}
+use mathlib.Core.Path.{_≡_}
+use Prim.Native.Nat.{ℕ}
+use lib.Dec.{eqb}
+use lib.ListN.{length}
+use Rattle.mine_state.specs.State.{MAX-ENEMIES}
+use Rattle.mine_state.specs.WellFormed.{WellFormed}
+use Rattle.mine_rules.specs.Ways.{UP, RIGHT, DOWN, LEFT}
+use Rattle.mine_apart.specs.Apart.{joined, Apart}
+use Rattle.mine_moves.specs.declared.moves.Player.{Player}
+use Rattle.mine_moves.specs.Steps.{playing}
+use Rattle.mine_pass.specs.declared.Pressed.{Pressed}
+use Rattle.mine_pass.specs.Pass.{keyed, played}
+
+-- the direction of a key, and 4 for none
+abbrev pub dirOf : ℕ → ℕ
+dirOf key = cond (eqb key 5) UP (cond (eqb key 8) DOWN (cond (eqb key 7) LEFT (cond (eqb key 9) RIGHT 4)))
+
+-- with some marks and directions the lent parts are a well-formed state
+pub record Ready (g xs ys : List ℕ) (n : ℕ) (p : Player) : Type 0 where
+  pub marks : List Bool
+  pub ways : List ℕ
+  pub parts : Apart xs ys ways
+  pub formed : WellFormed (playing marks g (joined xs ys ways) n p)
+
+-- whatever the marks and directions, a key makes this grid and this of the player
+abbrev pub Keyed : List ℕ → List ℕ → List ℕ → ℕ → Player → ℕ → List ℕ → Player → Type 0
+Keyed g xs ys n p key g′ r = (f : List Bool) (ds : List ℕ) → length ds ≡ MAX-ENEMIES → keyed (playing f g (joined xs ys ds) n p) key ≡ playing f g′ (joined xs ys ds) n r
+
+-- and all keys
+abbrev pub Plays : List ℕ → List ℕ → List ℕ → ℕ → Player → List ℕ → List ℕ → Pressed → Type 0
+Plays g xs ys n p keys g′ r = (f : List Bool) (ds : List ℕ) → length ds ≡ MAX-ENEMIES → played (playing f g (joined xs ys ds) n p) keys ≡ record { quit = r .quit; game = playing f g′ (joined xs ys ds) n (r .player) }
