@@ -98,6 +98,17 @@ void by_call_mine_pass(const Mine *in, const u8 *keys, usize n, u32 time, Mine *
     call_mine_pass(out, *in, keys, n, time, 0, 0);
 }
 
+typedef struct {
+    usize words[40 / 8];
+} Step;
+
+void *rule_cutter_step_on(Step *out, u8 *grid, Movers movers, usize count, usize px, usize py,
+                          signed char dx, signed char dy, _Bool trailing, _Bool dead);
+void by_rule_cutter_step_on(u8 *grid, const Movers *movers, usize count, usize px, usize py,
+                            signed char dx, signed char dy, _Bool trailing, _Bool dead, Step *out) {
+    rule_cutter_step_on(out, grid, *movers, count, px, py, dx, dy, trailing, dead);
+}
+
 void *rule_cutter_level(Cutter *out, Cutter in, const u8 *draws, usize n);
 void by_rule_cutter_level(const Cutter *in, const u8 *draws, usize n, Cutter *out) {
     rule_cutter_level(out, *in, draws, n);

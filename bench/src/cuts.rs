@@ -33,8 +33,14 @@ pub fn rows(table: &Table) {
     let step = |what: &str, aim, states: &[Cutter]| {
         rule(table, what, aim, states, Held::step_player, ours::cutter_step);
     };
-    step("step on the border", Aim::More(copies), &states::on_border());
-    step("step laying line", Aim::More(copies), &states::laying());
+    for (what, states) in
+        [("step on the border", states::on_border()), ("step laying line", states::laying())]
+    {
+        let (rust, ours) =
+            (|_: &_, g: &mut Held| g.step_player(), |_: &_, c: &mut _| ours::cutter_step_on(c));
+        table.in_place(what, Aim::Times(1.0), &states, Held::of, rust, Held::state, ours);
+        step(&format!("{what}, by value"), Aim::More(copies), &states);
+    }
     step("closing a middle cut", Aim::Times(1.0), &states::middle());
     step("closing with 63 pockets and a large region", Aim::Times(1.0), &states::pockets());
     step("closing with 400 regions of a cell", Aim::Times(1.0), &states::chequers(400));

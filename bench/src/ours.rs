@@ -49,6 +49,44 @@ calls! {
     cutter_ground: by_call_cutter_ground(c: &Cutter) -> Ground;
 }
 
+/// The player's part of a Cutter state after a step, as the port has it.
+#[repr(C)]
+#[derive(Default)]
+struct Step {
+    px: usize,
+    py: usize,
+    dx: i8,
+    dy: i8,
+    trailing: bool,
+    dead: bool,
+    closes: bool,
+    at: usize,
+    code: u8,
+}
+
+/// A step that closes nothing, in place.
+pub fn cutter_step_on(c: &mut Cutter) {
+    let mut to = Step::default();
+    let Cutter { grid, px, py, dx, dy, trailing, enemies, count, dead, .. } = c;
+    by_rule_cutter_step_on(grid, enemies, *count, *px, *py, *dx, *dy, *trailing, *dead, &mut to);
+    (*px, *py, *dx, *dy, *trailing, *dead) = (to.px, to.py, to.dx, to.dy, to.trailing, to.dead);
+}
+
+unsafe extern "C" {
+    safe fn by_rule_cutter_step_on(
+        grid: &mut [u8; CN],
+        movers: &[Mover; MOVERS],
+        count: usize,
+        px: usize,
+        py: usize,
+        dx: i8,
+        dy: i8,
+        trailing: bool,
+        dead: bool,
+        out: &mut Step,
+    );
+}
+
 /// A mine whose creatures are taken apart, as the port's rules in place take them.
 #[derive(Clone)]
 pub struct Parts {

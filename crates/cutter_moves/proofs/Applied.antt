@@ -1,7 +1,7 @@
 -- What a step's numbers make of a state, rule by rule. Assumes nothing.
-use mathlib.Core.Bool.{true}
+use mathlib.Core.Bool.{Bool, true, false, cond, false≢true}
 use mathlib.Core.List.{List}
-use mathlib.Core.Path.{_≡_, ap, _∙_}
+use mathlib.Core.Path.{_≡_, refl, sym, ap, _∙_}
 use Prim.Native.Nat.{ℕ, _/_, _%_}
 use lib.IntN.{pos}
 use lib.ListN.{set, getD}
@@ -9,9 +9,9 @@ use lib.Seq.{set-getD}
 use Rattle.ground.specs.Cells.{CW, cellAt, onBorder}
 use Rattle.cutter_state.specs.declared.Cutter.{Cutter}
 use Rattle.cutter_state.specs.Change.{withGrid, withTrailing, killed}
-use Rattle.cutter_rules.specs.Step.{playerCell, entered, laid, stopped}
+use Rattle.cutter_rules.specs.Step.{playerCell, entered, laid, stopped, stepped}
 use Rattle.cutter_moves.specs.declared.player.Step.{Step}
-use Rattle.cutter_moves.specs.Steps.{laying, closedAt, does, Plays}
+use Rattle.cutter_moves.specs.Steps.{laying, closedAt, applied, does, Plays}
 
 -- the same with one thing changed
 abbrev pub dying : Step → Step
@@ -28,6 +28,22 @@ drawing s = record { px = s .px; py = s .py; dx = s .dx; dy = s .dy; trailing = 
 
 abbrev pub shutting : Step → ℕ → Step
 shutting s t = record { px = s .px; py = s .py; dx = s .dx; dy = s .dy; trailing = s .trailing; dead = s .dead; closes = true; at = t; code = s .code }
+
+-- a choice, by its test
+pub first-chosen : {A : Type 0} (b : Bool) (u v : A) → b ≡ true → u ≡ cond b u v
+first-chosen true u v e = refl
+first-chosen false u v e = absurd (false≢true e)
+
+pub second-chosen : {A : Type 0} (b : Bool) (u v : A) → b ≡ false → v ≡ cond b u v
+second-chosen true u v e = absurd (false≢true (sym e))
+second-chosen false u v e = refl
+
+-- a step that closes nothing, with the ground that it left
+pub left-ground : (c : Cutter) (r : Step) (h : List ℕ) → does c r ≡ stepped c → r .closes ≡ false → h ≡ cond (r .closes) (c .grid) (set (c .grid) (r .at) (r .code)) → withGrid (applied c r) h ≡ stepped c
+left-ground c r h p f q =
+    ap (withGrid (applied c r)) (q ∙ sym (second-chosen (r .closes) (c .grid) (set (c .grid) (r .at) (r .code)) f))
+    ∙ second-chosen (r .closes) (closedAt c (r .at)) (applied c r) f
+    ∙ p
 
 module _ {c : Cutter} {g : List ℕ} {s : Step} (p : Plays c g s) where
   -- the player's own cell keeps its code

@@ -1,18 +1,24 @@
 -- Block Cutter: a step told as numbers, and what they make of a state. No promise cites it.
-use mathlib.Core.Bool.{false, cond}
+use mathlib.Core.Bool.{Bool, false, cond}
 use mathlib.Core.List.{List}
 use mathlib.Core.Path.{_≡_}
 use Prim.Native.Nat.{ℕ, _<_, _≤_, _/_, _%_}
+use lib.IntN.{ℤ}
 use lib.ListN.{length, getD, set}
-use Rattle.ground.specs.Cells.{CW, CN, MAX-ENEMIES, CB-TRAIL}
+use Rattle.ground.specs.Cells.{CW, CH, CN, MAX-ENEMIES, CB-TRAIL}
 use Rattle.ground.specs.declared.Mover.{Mover}
 use Rattle.cutter_state.specs.declared.Cutter.{Cutter}
-use Rattle.cutter_rules.specs.Step.{playerCell, entered, cutClosed, atBorder, stepped}
+use Rattle.cutter_state.specs.State.{place}
+use Rattle.cutter_rules.specs.Step.{entered, cutClosed, atBorder, stepped}
 use Rattle.cutter_moves.specs.declared.player.Step.{Step}
 
--- the player as it is, and its own cell with its code
+-- a player's part of a state, and its own cell with its code
+abbrev pub playing : List ℕ → ℕ → ℕ → ℤ → ℤ → Bool → Bool → Step
+playing g x y dx dy trailing dead = record { px = x; py = y; dx = dx; dy = dy; trailing = trailing; dead = dead; closes = false; at = place x y; code = getD g (place x y) 0 }
+
+-- the player as it is
 abbrev pub staying : Cutter → Step
-staying c = record { px = c .px; py = c .py; dx = c .dx; dy = c .dy; trailing = c .trailing; dead = c .dead; closes = false; at = playerCell c; code = getD (c .grid) (playerCell c) 0 }
+staying c = playing (c .grid) (c .px) (c .py) (c .dx) (c .dy) (c .trailing) (c .dead)
 
 -- the player enters the cell t and leaves line there
 abbrev pub laying : Step → ℕ → Step
@@ -40,6 +46,13 @@ pub record Decides (g : List ℕ) (n : ℕ) (s : Step) : Type 0 where
   pub here : s .at < CN
   pub few : n ≤ MAX-ENEMIES
 
+-- the lent ground, a player on it, and the number of creatures
+pub record Walks (g : List ℕ) (n x y : ℕ) : Type 0 where
+  pub cells : length g ≡ CN
+  pub across : x < CW
+  pub down : y < CH
+  pub few : n ≤ MAX-ENEMIES
+
 -- a state that has the lent ground and whose player stays by s
 pub record Plays (c : Cutter) (g : List ℕ) (s : Step) : Type 0 where
   pub same : c .grid ≡ g
@@ -52,3 +65,9 @@ Makes g s r rule = (c : Cutter) → Plays c g s → does c r ≡ rule c
 -- the same of a whole step, with the creatures told
 abbrev pub Stepped : List ℕ → List Mover → ℕ → Step → Step → Type 0
 Stepped g es n s r = (c : Cutter) → Plays c g s → c .enemies ≡ es → c .count ≡ n → does c r ≡ stepped c
+
+-- a step on the lent ground, which is h afterwards
+pub record SteppedOn (g : List ℕ) (es : List Mover) (n : ℕ) (s r : Step) (h : List ℕ) : Type 0 where
+  pub makes : Stepped g es n s r
+  pub inside : r .at < CN
+  pub ground : h ≡ cond (r .closes) g (set g (r .at) (r .code))

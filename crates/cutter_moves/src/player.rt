@@ -10,7 +10,7 @@ ghost use Rattle.cutter_state.specs.Change.{withDirection};
 ghost use Rattle.cutter_state.specs.WellFormed.{isZero, WellFormed};
 ghost use Rattle.cutter_rules.specs.Step.{directed, entered, cutClosed, atBorder, trailingStep, walkingStep, stepped, lineErased, respawned};
 ghost use Rattle.cutter_moves.specs.Moves.{OnGrid, Stepping};
-ghost use Rattle.cutter_moves.specs.Steps.{closedAt, laying, Lends, Makes, Decides, Stepped};
+ghost use Rattle.cutter_moves.specs.Steps.{playing, closedAt, laying, Lends, Walks, Makes, Decides, Stepped, SteppedOn};
 use crate::ahead::diagonal_of;
 use crate::enemies::enemy_at;
 use border::move_to_border;
@@ -59,6 +59,7 @@ fn standing(dx: i8, dy: i8) -> bool
 }
 
 // The player's part of a state, and one cell with its code, or the cell at which the step closes a cut.
+#[repr(C)]
 pub struct Step {
     pub px: usize,
     pub py: usize,
@@ -199,34 +200,66 @@ fn decide(grid: &[u8; CN], enemies: [Mover; MAX_ENEMIES], count: usize, s: Step)
     step_walking(grid, s, at)
 }
 
-// One movement step in the current direction. Lays or closes the line as it goes. The state is copied once, and every step but
-// a closing changes it by the same stores.
+// One movement step in the current direction, on the lent ground: lays the line as it goes. Answers the player's part of the state
+// afterwards; where it closes a cut, the ground stays as it was.
+pub fn step_on(
+    grid: &mut [u8; CN],
+    enemies: [Mover; MAX_ENEMIES],
+    count: usize,
+    px: usize,
+    py: usize,
+    dx: i8,
+    dy: i8,
+    trailing: bool,
+    dead: bool,
+) -> Step
+    requires { ⌜ Walks (now grid) count px py ⌝ }
+    ensures { λ r. ⌜ SteppedOn (now (grid .entry)) enemies count (playing (now (grid .entry)) px py dx dy trailing dead) r (now (grid .exit)) ⌝ }
+{
+    let own = py * CW + px;
+    let code = grid[own];
+    let s = Step {
+        px: px,
+        py: py,
+        dx: dx,
+        dy: dy,
+        trailing: trailing,
+        dead: dead,
+        closes: false,
+        at: own,
+        code: code,
+    };
+    let to = decide(grid, enemies, count, s);
+    if to.closes {
+        return to;
+    }
+    let at = to.at;
+    grid[at] = to.code;
+    to
+}
+
+// One movement step. The state is copied once, and every step but a closing changes it by the same stores.
 pub fn step_player(c: Cutter) -> Cutter
     requires { ⌜ WellFormed c ⌝ }
     ensures { λ r. ⌜ r ≡ stepped c ⌝ }
 {
     let mut out = c;
     let enemies = c.enemies;
-    let own = c.py * CW + c.px;
-    let code = out.grid[own];
-    let s = Step {
-        px: c.px,
-        py: c.py,
-        dx: c.dx,
-        dy: c.dy,
-        trailing: c.trailing,
-        dead: c.dead,
-        closes: false,
-        at: own,
-        code: code,
-    };
-    let to = decide(&out.grid, enemies, c.count, s);
-    let at = to.at;
+    let to = step_on(
+        &mut out.grid,
+        enemies,
+        c.count,
+        c.px,
+        c.py,
+        c.dx,
+        c.dy,
+        c.trailing,
+        c.dead,
+    );
     if to.closes {
-        out = close_at(c, at);
+        out = close_at(c, to.at);
         return out;
     }
-    out.grid[at] = to.code;
     out.px = to.px;
     out.py = to.py;
     out.dx = to.dx;

@@ -1,10 +1,6 @@
 // Block Cutter.
-use cutter_moves::Moved;
 use cutter_state::Cutter;
-use ground::CN;
 use ground::CW;
-use ground::MAX_ENEMIES;
-use ground::Mover;
 use refusal::Refusal;
 ghost use mathlib.Core.Bool.{true};
 ghost use mathlib.Core.Path.{_≡_};
@@ -15,7 +11,7 @@ ghost use Rattle.cutter_state.specs.WellFormed.{WellFormed, refusalOf};
 ghost use Rattle.cutter_rules.specs.Level.{drawsOk, creaturesOf, freshLevel};
 ghost use Rattle.cutter_rules.specs.Step.{stepped, respawned};
 ghost use Rattle.cutter_rules.specs.Tick.{enemiesStepped};
-ghost use Rattle.cutter_moves.specs.Moves.{OnGrid, Ticks, tickOf};
+ghost use Rattle.cutter_moves.specs.Moves.{OnGrid};
 ghost use Rattle.cutter_picture.specs.Picture.{Drawable, cutLit};
 
 // The copies of a state in and out, and nothing else.
@@ -47,22 +43,6 @@ pub extern "C" fn rule_cutter_tick(c: Cutter) -> Cutter
     ensures { λ r. ⌜ r ≡ enemiesStepped c ⌝ }
 {
     cutter_moves::step_enemies(c)
-}
-
-// The creatures, as a C struct holds them.
-#[repr(C)]
-pub struct Movers {
-    pub enemies: [Mover; MAX_ENEMIES],
-}
-
-// The same on the lent ground and the creatures alone, which is what the rule on a state calls.
-#[no_mangle]
-pub extern "C" fn rule_cutter_tick_on(grid: &[u8; CN], movers: Movers, count: usize) -> Moved
-    requires { ⌜ Ticks (now grid) (movers .enemies) count ⌝ }
-    ensures { λ r. ⌜ r ≡ tickOf (now (grid .entry)) (movers .enemies) count ⌝ }
-{
-    let enemies = movers.enemies;
-    cutter_moves::tick(grid, enemies, count)
 }
 
 #[no_mangle]
