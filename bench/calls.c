@@ -60,10 +60,11 @@ typedef struct {
 } Fallen;
 
 void *rule_mine_step_on(Player *out, u8 *grid, const usize *xs, const usize *ys, usize count,
-                        Player in, u8 dir);
+                        usize px, usize py, u32 coins, u32 needed, _Bool dead, _Bool won, u8 dir);
 void by_rule_mine_step_on(u8 *grid, const usize *xs, const usize *ys, usize count, Player *p,
                           u8 dir) {
-    rule_mine_step_on(p, grid, xs, ys, count, *p, dir);
+    rule_mine_step_on(p, grid, xs, ys, count, p->px, p->py, p->coins, p->needed, p->dead, p->won,
+                      dir);
 }
 
 Fallen rule_mine_gravity_on(u8 *grid, _Bool *falling, usize *xs, usize *ys, u8 *dirs, Fallen s,

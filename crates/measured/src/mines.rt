@@ -52,12 +52,25 @@ pub extern "C" fn rule_mine_step_on(
     xs: &[usize; MAX_ENEMIES],
     ys: &[usize; MAX_ENEMIES],
     count: usize,
-    p: Player,
+    px: usize,
+    py: usize,
+    coins: u32,
+    needed: u32,
+    dead: bool,
+    won: bool,
     dir: u8,
 ) -> Player
-    requires { ⌜ Stands (now grid) (now xs) (now ys) count p ⌝ }
-    ensures { λ r. ⌜ Steps (now (grid .entry)) (now (xs .entry)) (now (ys .entry)) count p dir (now (grid .exit)) r ⌝ }
+    requires { ⌜ Stands (now grid) (now xs) (now ys) count (record { px = px; py = py; coins = coins; needed = needed; dead = dead; won = won }) ⌝ }
+    ensures { λ r. ⌜ Steps (now (grid .entry)) (now (xs .entry)) (now (ys .entry)) count (record { px = px; py = py; coins = coins; needed = needed; dead = dead; won = won }) dir (now (grid .exit)) r ⌝ }
 {
+    let p = Player {
+        px: px,
+        py: py,
+        coins: coins,
+        needed: needed,
+        dead: dead,
+        won: won,
+    };
     mine_moves::step_on(grid, xs, ys, count, p, dir)
 }
 
