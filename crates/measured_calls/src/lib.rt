@@ -12,7 +12,7 @@ ghost use Rattle.cutter.specs.Calls.{reportCall};
 pub extern "C" fn call_mine_pass(m: Mine, keys: &[u8], time: u32, first: u32, second: u32) -> Mine
     ensures { λ r. ⌜ r ≡ MinePass.passAt m (now (keys .entry)) time first second .passed .game ⌝ }
 {
-    let t = mine_pass::pass_at(m, keys, time, first, second);
+    let t = mine_turn::pass_at(m, keys, time, first, second);
     t.passed.game
 }
 

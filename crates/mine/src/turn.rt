@@ -1,8 +1,8 @@
 // One turn of the game's loop. The pacing record is lent to a pass, which updates it.
 use mine_pass::MinePassed;
 use mine_pass::MineTurn;
-use mine_pass::pass_at;
 use mine_state::Mine;
+use mine_turn::pass_at;
 use pace::Pace;
 ghost use mathlib.Core.Path.{_≡_};
 ghost use Rattle.mine_pass.specs.Pass.{passAt};

@@ -1,4 +1,3 @@
 pub mod Answers
 pub mod Keys
 pub mod Kept
-pub mod Taken

@@ -55,10 +55,10 @@ use Rattle.mine_pass.proofs.MineTurn as S
 use Rattle.mine_pass.proofs.MineTurn.Laws as S′
 use Rattle.mine_pass.proofs.MinePassed as P
 use Rattle.mine_pass.proofs.MinePassed.Laws as P′
-use Rattle.mine_pass.proofs.pass_at as pass-at
-use Rattle.mine_pass.proofs.pass_at.Symbol as pass-at-def
-use Rattle.mine_pass.proofs.pass_at.Symbol.{name as #pass-at}
-use Rattle.mine_pass.proofs.pass_at.Met as pass-at-thm
+use Rattle.mine_turn.proofs.pass_at as pass-at
+use Rattle.mine_turn.proofs.pass_at.Symbol as pass-at-def
+use Rattle.mine_turn.proofs.pass_at.Symbol.{name as #pass-at}
+use Rattle.mine_turn.proofs.pass_at.Met as pass-at-thm
 use Rattle.mine.proofs.turn.pass.Key.{name as #pass}
 use Rattle.mine.proofs.turn.pass as pass
 use Rattle.mine.proofs.turn.pass.Statement as stated

@@ -2,9 +2,9 @@
 use mathlib.Core.Path.{sym, _∙_}
 use borrow.Author.Needs.{needs}
 use Rattle.mine_state.proofs.Facts.{accepted}
 use Rattle.mine_pass.proofs.Answers.{refused-pass, won-pass, dead-pass, after-keys}
-use Rattle.mine_pass.proofs.pass_at.Statement.{statement}
-use Rattle.mine_pass.proofs.pass_at.Tie as tie
+use Rattle.mine_turn.proofs.pass_at.Statement.{statement}
+use Rattle.mine_turn.proofs.pass_at.Tie as tie
 
 check-requires : tie.Need-check-requires
 check-requires c κs = search needs

@@ -1,8 +1,8 @@
 -- `mine_pass::enemies_if` meets its contract. Assumes nothing.
 use mathlib.Core.Path.{refl}
 use borrow.Author.Needs.{needs}
-use Rattle.mine_pass.proofs.enemies_if.Statement.{statement}
-use Rattle.mine_pass.proofs.enemies_if.Tie as tie
+use Rattle.mine_turn.proofs.enemies_if.Statement.{statement}
+use Rattle.mine_turn.proofs.enemies_if.Tie as tie
 
 tick-on-requires : tie.Need-tick-on-requires
 tick-on-requires c κs = search needs

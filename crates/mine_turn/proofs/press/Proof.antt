@@ -3,9 +3,9 @@ use native.Mathlib.Omega.{arith}
 use borrow.Author.Needs.{needs}
 use Rattle.mine_state.proofs.Facts.{sound}
 use Rattle.mine_rules.proofs.Next.{home}
-use Rattle.mine_pass.proofs.Keys.{key-moves, key-stays}
-use Rattle.mine_pass.proofs.press.Statement.{statement}
-use Rattle.mine_pass.proofs.press.Tie as tie
+use Rattle.mine_turn.proofs.Keys.{key-moves, key-stays}
+use Rattle.mine_turn.proofs.press.Statement.{statement}
+use Rattle.mine_turn.proofs.press.Tie as tie
 
 dir-of-requires : tie.Need-dir-of-requires
 dir-of-requires c κs = search needs

@@ -15,12 +15,12 @@ use Rattle.mine_moves.specs.Steps.{playing, Walkers}
 use Rattle.mine_fall.specs.declared.Fallen.{Fallen}
 use Rattle.mine_fall.specs.Places.{whole, Falling, Dropped}
 use Rattle.mine_fall.proofs.Parts.{numbers, sound-whole}
 use Rattle.mine_pass.specs.declared.Played.{Played}
-use Rattle.mine_pass.specs.declared.Pressed.{Pressed}
+use Rattle.mine_turn.specs.declared.Pressed.{Pressed}
 use Rattle.mine_pass.specs.Pass.{played}
-use Rattle.mine_pass.specs.Parts.{Ready, Plays}
+use Rattle.mine_turn.specs.Parts.{Ready, Plays}
 use Rattle.mine_pass.proofs.Keys.{keys-kept}
 use Rattle.mine_pass.proofs.Kept.{fallen-kept}
 
 -- the player's part of a state
 abbrev pub playerOf : Mine → Player

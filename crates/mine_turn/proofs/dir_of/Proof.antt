@@ -1,7 +1,7 @@
 -- `mine_pass::dir_of` meets its contract. Assumes nothing.
 use borrow.Author.Tests.{ne-eqb}
-use Rattle.mine_pass.proofs.dir_of.Statement.{statement}
-use Rattle.mine_pass.proofs.dir_of.Tie as tie
+use Rattle.mine_turn.proofs.dir_of.Statement.{statement}
+use Rattle.mine_turn.proofs.dir_of.Tie as tie
 
 returns : tie.Need-returns
 returns c = rw (c .match .keys1)

@@ -10,21 +10,21 @@ use Rattle.mine_state.proofs.Facts.{sound}
 use Rattle.mine_apart.specs.Apart.{joined, standing, Apart}
 use Rattle.mine_apart.proofs.Joined.{joined-of, apart-of}
 use Rattle.mine_moves.specs.Steps.{playing, deadIf}
 use Rattle.mine_pass.specs.Pass.{still, afterKeys}
 use Rattle.mine_pass.proofs.Answers.{after-quit, after-ticks}
-use Rattle.mine_pass.proofs.Taken.{ready, keyedGame, keyed-state, falling, fallenGame, fallen-state, walkers}
-use Rattle.mine_pass.proofs.go_on.Statement.{statement}
-use Rattle.mine_pass.proofs.go_on.Tie as tie
-use Rattle.mine_pass.proofs.go_on.Reads as reads
-use Rattle.mine_pass.proofs.go_on.Lts as lts
+use Rattle.mine_turn.proofs.Taken.{ready, keyedGame, keyed-state, falling, fallenGame, fallen-state, walkers}
+use Rattle.mine_turn.proofs.go_on.Statement.{statement}
+use Rattle.mine_turn.proofs.go_on.Tie as tie
+use Rattle.mine_turn.proofs.go_on.Reads as reads
+use Rattle.mine_turn.proofs.go_on.Lts as lts
 use Rattle.mine_apart.proofs.dirs_of.Reads as dirs-of-reads
 use Rattle.mine_apart.proofs.enemies_of.Reads as enemies-of-reads
 use Rattle.mine_apart.proofs.xs_of.Reads as xs-of-reads
 use Rattle.mine_apart.proofs.ys_of.Reads as ys-of-reads
-use Rattle.mine_pass.proofs.enemies_if.Reads as enemies-if-reads
-use Rattle.mine_pass.proofs.gravity_if.Reads as gravity-if-reads
-use Rattle.mine_pass.proofs.play.Reads as play-reads
-use Rattle.mine_pass.proofs.turn.Reads as turn-reads
+use Rattle.mine_turn.proofs.enemies_if.Reads as enemies-if-reads
+use Rattle.mine_turn.proofs.gravity_if.Reads as gravity-if-reads
+use Rattle.mine_turn.proofs.play.Reads as play-reads
+use Rattle.mine_turn.proofs.turn.Reads as turn-reads
 use Rattle.pace.proofs.both_ticks.Reads as both-ticks-reads
 
 -- once the creatures are taken apart

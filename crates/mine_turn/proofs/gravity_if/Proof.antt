@@ -1,8 +1,8 @@
 -- `mine_pass::gravity_if` meets its contract. Assumes nothing.
 use mathlib.Core.Path.{refl}
 use borrow.Author.Needs.{needs}
-use Rattle.mine_pass.proofs.gravity_if.Statement.{statement}
-use Rattle.mine_pass.proofs.gravity_if.Tie as tie
+use Rattle.mine_turn.proofs.gravity_if.Statement.{statement}
+use Rattle.mine_turn.proofs.gravity_if.Tie as tie
 
 gravity-on-requires : tie.Need-gravity-on-requires
 gravity-on-requires c κs = search needs

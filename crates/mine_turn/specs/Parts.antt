@@ -11,8 +11,8 @@ use Rattle.mine_rules.specs.Ways.{UP, RIGHT, DOWN, LEFT}
 use Rattle.mine_apart.specs.Apart.{joined, Apart}
 use Rattle.mine_moves.specs.declared.moves.Player.{Player}
 use Rattle.mine_moves.specs.Steps.{playing}
-use Rattle.mine_pass.specs.declared.Pressed.{Pressed}
+use Rattle.mine_turn.specs.declared.Pressed.{Pressed}
 use Rattle.mine_pass.specs.Pass.{keyed, played}
 
 -- the direction of a key, and 4 for none
 abbrev pub dirOf : ℕ → ℕ
