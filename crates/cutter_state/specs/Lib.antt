@@ -1,4 +1,3 @@
 pub mod State
 pub mod WellFormed
 pub mod Change
-pub mod Passes
