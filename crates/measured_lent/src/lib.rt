@@ -1,5 +1,7 @@
-// Block Cutter on a lent ground: what the rules on a state call, for bench/ to measure. It stands apart from `measured`, since what
-// two exports of one library share is compiled as a call of its own.
+// What the rules on a state call, on lent arrays, for bench/ to measure. It stands apart from `measured`, since what two exports of one
+// library share is compiled as a call of its own. Block Cutter here, on a lent ground.
+mod mines;
+
 use cutter_moves::Moved;
 use cutter_moves::Step;
 use ground::CN;
