@@ -133,7 +133,7 @@ pub struct Roamed {
 }
 
 // Bounce diagonally through the black: straight on where all three cells ahead are.
-pub fn roam(grid: &[u8; CN], e: Mover) -> Roamed
+fn roam(grid: &[u8; CN], e: Mover) -> Roamed
     requires { ⌜ Roams (now grid) e (e .vx) (e .vy) ⌝ }
     ensures { λ r. ⌜ r ≡ roamOf (now (grid .entry)) e ⌝ }
 {
