@@ -38,7 +38,7 @@ pub fn rows(table: &Table) {
     {
         let (rust, ours) =
             (|_: &_, g: &mut Held| g.step_player(), |_: &_, c: &mut _| ours::cutter_step_on(c));
-        table.in_place(what, Aim::Times(1.0), &states, Held::of, rust, Held::state, ours);
+        table.in_place(what, Aim::More(copies), &states, Held::of, rust, Held::state, ours);
         step(&format!("{what}, by value"), Aim::More(copies), &states);
     }
     step("closing a middle cut", Aim::Times(1.0), &states::middle());

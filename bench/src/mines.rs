@@ -17,7 +17,7 @@ pub fn rows(table: &Table) {
     let moves = states::moves();
     table.in_parts(
         "move",
-        Aim::Times(1.0),
+        Aim::More(copies),
         &moves,
         (
             |s: &(Mine, u8)| Held::of(&s.0),
