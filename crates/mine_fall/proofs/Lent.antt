@@ -11,9 +11,9 @@ use Rattle.found.specs.First.{nobody}
 use Rattle.found.specs.declared.Found.{Found}
 use Rattle.mine_state.specs.declared.Mine.{Mine}
 use Rattle.mine_state.specs.State.{W, H, EMPTY, place, codeIn, codeAt, emptyAt, playerAt, firstAt}
-use Rattle.mine_state.specs.Spots.{firstSpot, freeSpot, Stand}
+use Rattle.mine_fall.specs.Spots.{firstSpot, freeSpot, Stand}
 use Rattle.mine_state.proofs.Cells.{empty-inside}
-use Rattle.mine_state.proofs.Places.{free-spot, player-spot, first-spot}
+use Rattle.mine_fall.proofs.Places.{free-spot, player-spot, first-spot}
 use Rattle.mine_rules.specs.Gravity.{isObject, rested, openSide, overOther, cellFall}
 use Rattle.mine_fall.specs.Falls.{Quietly, openSpot, lent}
 

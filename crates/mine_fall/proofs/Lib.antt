@@ -1,3 +1,4 @@
+pub mod Places
 pub mod Lent
 pub mod Loops
 pub mod Parts

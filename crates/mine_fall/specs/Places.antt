@@ -7,7 +7,7 @@ use lib.ListN.{length, getD, set}
 use Rattle.mine_state.specs.declared.Mine.{Mine}
 use Rattle.mine_state.specs.declared.Enemy.{Enemy}
 use Rattle.mine_state.specs.State.{W, H, MAX-ENEMIES}
-use Rattle.mine_state.specs.Spots.{spotsFrom}
+use Rattle.mine_fall.specs.Spots.{spotsFrom}
 use Rattle.mine_state.specs.WellFormed.{Sound}
 use Rattle.mine_apart.specs.Apart.{joined, Apart}
 use Rattle.mine_fall.specs.declared.Fallen.{Fallen}

@@ -3,6 +3,11 @@
 // The grid and the marks are lent to what happens at a cell. Where the creatures and the player stand
 // is told by their places, numbers that are lent too; the creatures themselves stay with `gravity_on`,
 // and what a fall does beside moving comes back as a `Fell`.
+mod spots;
+
+use crate::spots::enemy_at;
+use crate::spots::free;
+use crate::spots::spots_of;
 use found::Found;
 use mine_apart::dirs_of;
 use mine_apart::enemies_of;
@@ -16,18 +21,16 @@ use mine_state::H;
 use mine_state::MAX_ENEMIES;
 use mine_state::Mine;
 use mine_state::W;
-use mine_state::enemy_at;
-use mine_state::free;
-ghost use mathlib.Core.Bool.{true, false, cond};
+ghost use mathlib.Core.Bool.{true, false};
 ghost use mathlib.Core.Path.{_≡_};
 ghost use Prim.Native.Nat.{_<_, _+_};
-ghost use Rattle.mine_state.specs.State.{W, AREA, CellOf};
-ghost use Rattle.mine_state.specs.Spots.{Lent};
+ghost use Rattle.mine_state.specs.State.{W, CellOf};
+ghost use Rattle.mine_fall.specs.Spots.{Lent};
 ghost use Rattle.mine_state.specs.WellFormed.{Sound};
 ghost use Rattle.mine_fall.specs.declared.Fell.the-variants.{Quiet};
 ghost use Rattle.mine_rules.specs.Gravity.{isObject, carried, overPlayer, overEmpty, rolled, cellFall, gravityOf};
 ghost use Rattle.mine_fall.specs.Falls.{LentCell, LentCells, Reached, openSpot, Quietly, Does, Falls};
-ghost use Rattle.mine_fall.specs.Places.{Placed, Spots, Slots, left, Falling, Dropped};
+ghost use Rattle.mine_fall.specs.Places.{Slots, left, Falling, Dropped};
 
 // What an object did, beside moving.
 pub enum Fell {
@@ -209,35 +212,6 @@ fn cell_fall(
         roll(grid, falling, spots, player, x, y);
     }
     Fell::Quiet
-}
-
-// The place of a creature that is there, and AREA, which is no place, for a slot past the count.
-fn spot_or(there: bool, at: usize) -> usize
-    ensures { λ r. ⌜ r ≡ cond there at AREA ⌝ }
-{
-    if there {
-        return at;
-    }
-    AREA
-}
-
-// Where the creatures stand.
-fn spots_of(
-    xs: &[usize; MAX_ENEMIES],
-    ys: &[usize; MAX_ENEMIES],
-    count: usize,
-) -> [usize; MAX_ENEMIES]
-    requires { ⌜ Placed (now xs) (now ys) ⌝ }
-    ensures { λ r. ⌜ Spots (now (xs .entry)) (now (ys .entry)) count r ⌝ }
-{
-    let mut out: [usize; MAX_ENEMIES] = [AREA; MAX_ENEMIES];
-    let mut i: usize = 0;
-    while i < MAX_ENEMIES {
-        let at = spot_or(i < count, ys[i] * W + xs[i]);
-        out[i] = at;
-        i += 1;
-    }
-    out
 }
 
 // The last creature takes the place of the one that goes, and leaves `blank`.

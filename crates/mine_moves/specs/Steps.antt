@@ -7,8 +7,7 @@ use lib.Dec.{eqb}
 use lib.ListN.{length, set}
 use Rattle.mine_state.specs.declared.Mine.{Mine}
 use Rattle.mine_state.specs.declared.Enemy.{Enemy}
-use Rattle.mine_state.specs.State.{AREA, MAX-ENEMIES, EMPTY, place, emptyAt}
-use Rattle.mine_state.specs.Spots.{onMap, allOnMap}
+use Rattle.mine_state.specs.State.{AREA, MAX-ENEMIES, EMPTY, place, emptyAt, onMap, allOnMap}
 use Rattle.mine_rules.specs.declared.Step.{Step}
 use Rattle.mine_rules.specs.Ways.{UP, RIGHT, DOWN, OnGrid}
 use Rattle.mine_apart.specs.Apart.{joined, standing, Apart, Peopled, Lent}

@@ -9,8 +9,7 @@ use Rattle.laws.specs.Lists.{bit, count}
 use Rattle.laws.proofs.Lists.{all-at, all-set}
 use Rattle.laws.proofs.Counts.{count-clear, count-set, getD-set-kept}
 use Rattle.mine_state.specs.declared.Mine.{Mine}
-use Rattle.mine_state.specs.State.{W, H, AREA, EMPTY, isCoin, place, codeAt, blankSlot}
-use Rattle.mine_state.specs.Spots.{onMap}
+use Rattle.mine_state.specs.State.{W, H, AREA, EMPTY, isCoin, place, codeAt, blankSlot, onMap}
 use Rattle.mine_state.specs.Change.{withGrid, withMarks, killed}
 use Rattle.mine_state.specs.WellFormed.{Sound}
 use Rattle.mine_state.proofs.Cells.{empty-inside, empty-code, free-inside, free-empty}

@@ -2,20 +2,21 @@
 use mathlib.Core.Bool.{Bool, true, false, _&&_}
 use mathlib.Core.List.{List, [], _∷_}
 use mathlib.Core.Path.{_≡_, refl}
-use Prim.Native.Nat.{ℕ, zero, suc, _+_, _<_}
+use Prim.Native.Nat.{ℕ, zero, suc, _+_, _<_, _≤_}
 use native.Mathlib.Omega.{arith}
 use lib.Dec.{eqb, leb}
-use lib.ListN.{drop, take, length-take}
-use borrow.Author.Tests.{eqb-true}
+use lib.ListN.{getD, drop, take, length-take}
+use borrow.Author.Tests.{eqb-true, leb-true}
 use Rattle.laws.specs.Lists.{all, any}
 use Rattle.laws.proofs.Choice.{and-left, and-right, and-both}
+use Rattle.laws.proofs.Lists.{all-at}
 use Rattle.found.specs.declared.Found.the-variants.{At}
 use Rattle.found.proofs.First.{first-bound}
 use Rattle.mine_state.specs.declared.Mine.{Mine}
 use Rattle.mine_state.specs.declared.Enemy.{Enemy}
-use Rattle.mine_state.specs.State.{onGrid, codeIn, EMPTY, emptyAt, creatures, standsAt, firstAt}
-use Rattle.mine_state.specs.Spots.{onMap, allOnMap}
+use Rattle.mine_state.specs.State.{W, H, onGrid, codeIn, EMPTY, emptyAt, creatures, standsAt, firstAt, onMap, allOnMap, blankSlot}
 use Rattle.mine_state.specs.WellFormed.{creatureOk, apart, blank}
+use Rattle.mine_state.proofs.Cells.{on-grid}
 
 -- A loop that asks of each creature whether a later one stands on its cell.
 module _ (l : List Enemy) (i : ℕ) {R : Bool} {e : Enemy} (h : drop i l ≡ e ∷ drop (i + 1) l) (q : apart (drop i l) ≡ R) where
@@ -57,3 +58,14 @@ slots-on-map g zero (e ∷ es) a b =
 slots-on-map g (suc n) (e ∷ es) a b =
     and-both (onMap e) (allOnMap es) (creature-on-map g e (and-left (creatureOk g e) (all (creatureOk g) (take n es)) a))
     (slots-on-map g n es (and-right (creatureOk g e) (all (creatureOk g) (take n es)) a) b)
+
+-- where a slot on the map is
+pub map-inside : (e : Enemy) → onMap e ≡ true → (e .x < W) × (e .y < H)
+map-inside e h = on-grid (e .x) (e .y) (and-left (onGrid (e .x) (e .y)) (leb (e .dir) 3) h)
+
+pub map-dir : (e : Enemy) → onMap e ≡ true → e .dir ≤ 3
+map-dir e h = leb-true (e .dir) 3 (and-right (onGrid (e .x) (e .y)) (leb (e .dir) 3) h)
+
+-- the slot i is on the map
+pub slot-on-map : (es : List Enemy) (i : ℕ) → allOnMap es ≡ true → onMap (getD es i blankSlot) ≡ true
+slot-on-map es i a = all-at onMap es i blankSlot a refl

@@ -10,8 +10,7 @@ use Rattle.laws.specs.Lists.{all}
 use Rattle.laws.proofs.Choice.{and-left, and-right, and-three}
 use Rattle.refusal.proofs.Checks.{none-passes, passes-none}
 use Rattle.mine_state.specs.declared.Mine.{Mine}
-use Rattle.mine_state.specs.State.{AREA, MAX-ENEMIES, place, isCode, creatures, purse}
-use Rattle.mine_state.specs.Spots.{spotsFrom, Stand}
+use Rattle.mine_state.specs.State.{AREA, MAX-ENEMIES, isCode, creatures, purse}
 use Rattle.mine_state.specs.WellFormed.{cellsOk, playerOk, creatureOk, apart, blank, creaturesOk, numbersOk, wellFormed, refusalOf, WellFormed, Sound}
 use Rattle.mine_state.proofs.Cells.{empty-inside}
 use Rattle.mine_state.proofs.Creatures.{slots-on-map}
@@ -78,7 +77,3 @@ sound m w =
       home = empty-inside (m .grid) (m .px) (m .py) (w .player);
       coins = w .coins;
     }
-
--- the places that `spots_of` gives, and the player's, tell where everyone stands
-pub stands : (m : Mine) {spots : List ℕ} → Sound m → spots ≡ spotsFrom (m .count) (m .enemies) → Stand m spots (place (m .px) (m .py))
-stands m s e = record { spotted = record { placed = s .placed; them = e }; home = s .home .0; you = refl }

@@ -1,5 +1,4 @@
 pub mod Creatures
 pub mod Cells
-pub mod Places
 pub mod Facts
 pub mod Cases

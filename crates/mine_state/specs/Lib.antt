@@ -1,4 +1,3 @@
 pub mod State
 pub mod Change
-pub mod Spots
 pub mod WellFormed

@@ -5,7 +5,7 @@ use mathlib.Core.Path.{_≡_}
 use Prim.Native.Nat.{ℕ, _+_, _*_, _<_}
 use lib.Dec.{leb, ltb, eqb}
 use lib.ListN.{length, getD, take}
-use Rattle.laws.specs.Lists.{count}
+use Rattle.laws.specs.Lists.{all, count}
 use Rattle.found.specs.First.{first, nobody}
 use Rattle.found.specs.declared.Found.{Found}
 use Rattle.mine_state.specs.declared.Mine.{Mine}
@@ -83,6 +83,13 @@ creatures m = take (m .count) (m .enemies)
 
 abbrev pub standsAt : ℕ → ℕ → Enemy → Bool
 standsAt x y e = eqb (e .x) x && eqb (e .y) y
+
+-- a slot on the grid with a direction from 0 to 3; one that holds zeros is such
+abbrev pub onMap : Enemy → Bool
+onMap e = onGrid (e .x) (e .y) && leb (e .dir) 3
+
+abbrev pub allOnMap : List Enemy → Bool
+allOnMap es = all onMap es
 
 -- the first creature at (x, y), or nobody
 abbrev pub firstAt : Mine → ℕ → ℕ → Found

@@ -9,8 +9,7 @@ use Rattle.laws.specs.Lists.{all, any}
 use Rattle.refusal.specs.Refusal.{CELLS, PLAYER, CREATURES, NUMBERS, unless, _then_}
 use Rattle.mine_state.specs.declared.Mine.{Mine}
 use Rattle.mine_state.specs.declared.Enemy.{Enemy}
-use Rattle.mine_state.specs.State.{W, H, AREA, MAX-ENEMIES, isCode, emptyAt, creatures, standsAt, purse}
-use Rattle.mine_state.specs.Spots.{allOnMap}
+use Rattle.mine_state.specs.State.{W, H, AREA, MAX-ENEMIES, isCode, emptyAt, creatures, standsAt, allOnMap, purse}
 
 -- 24 by 14 cells, codes 0 to 5; a falling mark per cell, free in value
 unfoldable pub cellsOk : Mine → Bool

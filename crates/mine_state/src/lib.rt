@@ -1,9 +1,4 @@
-// Block Mine: the state, and who stands where.
-mod spots;
-
-pub use spots::enemy_at;
-pub use spots::free;
-pub use spots::spots_of;
+// Block Mine: the state.
 ghost use mathlib.Core.Path.{_≡_};
 ghost use Rattle.mine_state.specs.State.{AREA, codeIn, standsAt, CellOf};
 

@@ -7,8 +7,8 @@ use lib.ListN.{length, getD, set}
 use borrow.Author.Needs.{needs}
 use Rattle.mine_state.specs.declared.Mine.{Mine}
 use Rattle.mine_state.specs.State.{W, H, AREA, MAX-ENEMIES}
-use Rattle.mine_state.specs.Spots.{spotsFrom}
-use Rattle.mine_state.proofs.Places.{spots-without, length-spots}
+use Rattle.mine_fall.specs.Spots.{spotsFrom}
+use Rattle.mine_fall.proofs.Places.{spots-without, length-spots}
 use Rattle.mine_fall.specs.declared.Fell.{Fell}
 use Rattle.mine_fall.specs.declared.Fell.the-variants.{Squashed}
 use Rattle.mine_rules.specs.Gravity.{cellFall, gravityOf, without}
@@ -25,7 +25,7 @@ use Rattle.mine_fall.proofs.cell_fall.Reads as cell-fall-reads
 use Rattle.mine_fall.proofs.leave.Reads as leave-reads
 use Rattle.mine_fall.proofs.leave_dir.Reads as leave-dir-reads
 use Rattle.mine_fall.proofs.quiet.Reads as quiet-reads
-use Rattle.mine_fall.proofs.spots_of.Reads as spots-of-reads
+use Rattle.mine_fall.proofs.spots.spots_of.Reads as spots-of-reads
 
 abbrev Inv-loop2 : tie.InvT-loop2
 Inv-loop2 grid₀ falling₀ xs₀ ys₀ dirs₀ px py count₀ coins₀ dead₀ spots₀ player y x₀ grid falling xs ys dirs count coins dead spots x =

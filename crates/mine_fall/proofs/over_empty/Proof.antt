@@ -2,7 +2,7 @@ use mathlib.Core.Path.{refl, sym, _∙_}
 use Prim.Native.Nat.{_+_}
 use native.Mathlib.Omega.{arith}
 use borrow.Author.Needs.{needs}
-use Rattle.mine_state.proofs.Places.{spot-below}
+use Rattle.mine_fall.proofs.Places.{spot-below}
 use Rattle.mine_rules.specs.Gravity.{overEmpty, overCreature, without, rested}
 use Rattle.mine_fall.proofs.Lent.{on-player, off-player, found}
 use Rattle.mine_fall.proofs.over_empty.Statement.{statement}

@@ -1,7 +1,7 @@
 use mathlib.Core.Path.{sym, _∙_}
 use native.Mathlib.Omega.{arith}
 use borrow.Author.Needs.{needs}
-use Rattle.mine_state.proofs.Places.{map-inside}
+use Rattle.mine_state.proofs.Creatures.{map-inside}
 use Rattle.mine_rules.specs.Ways.{OnGrid}
 use Rattle.mine_rules.specs.Tick.{wayOf}
 use Rattle.mine_rules.proofs.Next.{next-inside}

@@ -1,10 +1,10 @@
 use mathlib.Core.Path.{sym, _∙_}
 use borrow.Author.Needs.{needs}
 use borrow.Author.Tests.{eq-eqb, ne-eqb, lt-ltb, le-ltb}
 use Rattle.mine_state.specs.State.{emptyAt}
-use Rattle.mine_state.specs.Spots.{freeSpot}
-use Rattle.mine_state.proofs.spots.free.Statement.{statement}
-use Rattle.mine_state.proofs.spots.free.Tie as tie
+use Rattle.mine_fall.specs.Spots.{freeSpot}
+use Rattle.mine_fall.proofs.spots.free.Statement.{statement}
+use Rattle.mine_fall.proofs.spots.free.Tie as tie
 
 returns : tie.Need-returns
 unfolding freeSpot emptyAt

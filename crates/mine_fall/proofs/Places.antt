@@ -12,22 +12,12 @@ use Rattle.laws.proofs.Lists.{all-at}
 use Rattle.laws.proofs.Choice.{and-left, and-right}
 use Rattle.found.specs.First.{firstFrom, nobody}
 use Rattle.found.specs.declared.Found.the-variants.{At, Nobody}
 use Rattle.mine_state.specs.declared.Mine.{Mine}
 use Rattle.mine_state.specs.declared.Enemy.{Enemy}
-use Rattle.mine_state.specs.State.{W, H, AREA, place, onGrid, standsAt, firstAt, playerAt, emptyAt, freeAt, blankSlot}
-use Rattle.mine_state.specs.Spots.{onMap, allOnMap, spotOr, spotsFrom, isSpot, firstSpot, freeSpot, Spotted, Stand}
+use Rattle.mine_state.specs.State.{onMap, allOnMap, W, H, AREA, place, onGrid, standsAt, firstAt, playerAt, emptyAt, freeAt, blankSlot}
+use Rattle.mine_fall.specs.Spots.{spotOr, spotsFrom, isSpot, firstSpot, freeSpot, Spotted, Stand}
 use Rattle.mine_state.proofs.Cells.{on-grid, same-place, empty-inside}
-use Rattle.mine_state.proofs.Creatures.{found-below}
-
-pub map-inside : (e : Enemy) → onMap e ≡ true → (e .x < W) × (e .y < H)
-map-inside e h = on-grid (e .x) (e .y) (and-left (onGrid (e .x) (e .y)) (leb (e .dir) 3) h)
-
-pub map-dir : (e : Enemy) → onMap e ≡ true → e .dir ≤ 3
-map-dir e h = leb-true (e .dir) 3 (and-right (onGrid (e .x) (e .y)) (leb (e .dir) 3) h)
-
--- the slot i is on the map
-pub slot-on-map : (es : List Enemy) (i : ℕ) → allOnMap es ≡ true → onMap (getD es i blankSlot) ≡ true
-slot-on-map es i a = all-at onMap es i blankSlot a refl
+use Rattle.mine_state.proofs.Creatures.{found-below, map-inside}
 
 -- no creature's place is AREA
 off-place : (x y : ℕ) → x < W → y < H → isSpot (place x y) AREA ≡ false

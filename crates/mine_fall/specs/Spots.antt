@@ -1,23 +1,15 @@
--- Block Mine: the creatures' places, which stand for the creatures where the code asks who is there.
+-- The creatures' places, which stand for the creatures where gravity asks who is there.
 use mathlib.Core.Bool.{Bool, true, cond, _&&_, not}
 use mathlib.Core.List.{List, [], _∷_}
 use mathlib.Core.Path.{_≡_}
 use Prim.Native.Nat.{ℕ, zero, suc, _<_}
-use lib.Dec.{eqb, leb}
+use lib.Dec.{eqb}
 use lib.ListN.{length}
-use Rattle.laws.specs.Lists.{all}
 use Rattle.found.specs.First.{first, nobody}
 use Rattle.found.specs.declared.Found.{Found}
 use Rattle.mine_state.specs.declared.Mine.{Mine}
 use Rattle.mine_state.specs.declared.Enemy.{Enemy}
-use Rattle.mine_state.specs.State.{W, AREA, MAX-ENEMIES, place, onGrid, emptyAt}
-
--- a slot on the grid with a direction from 0 to 3; one that holds zeros is such
-abbrev pub onMap : Enemy → Bool
-onMap e = onGrid (e .x) (e .y) && leb (e .dir) 3
-
-abbrev pub allOnMap : List Enemy → Bool
-allOnMap es = all onMap es
+use Rattle.mine_state.specs.State.{W, AREA, MAX-ENEMIES, place, emptyAt, allOnMap}
 
 -- a creature's place, and AREA, which is no place, where there is none
 abbrev pub spotOr : Bool → Enemy → ℕ

@@ -7,10 +7,10 @@ use borrow.Author.Tests.{eq-eqb, ne-eqb}
 use Rattle.laws.proofs.Lists.{drop-one, drop-end}
 use Rattle.found.specs.First.{firstFrom}
 use Rattle.found.proofs.First.{first-here, first-more, first-none}
 use Rattle.mine_state.specs.State.{MAX-ENEMIES}
-use Rattle.mine_state.specs.Spots.{isSpot, firstSpot}
-use Rattle.mine_state.proofs.spots.enemy_at.Statement.{statement}
-use Rattle.mine_state.proofs.spots.enemy_at.Tie as tie
+use Rattle.mine_fall.specs.Spots.{isSpot, firstSpot}
+use Rattle.mine_fall.proofs.spots.enemy_at.Statement.{statement}
+use Rattle.mine_fall.proofs.spots.enemy_at.Tie as tie
 
 abbrev Inv-loop : tie.InvT-loop
 Inv-loop spots at i₀ i = (i ≤ MAX-ENEMIES) × (firstFrom (isSpot at) i (drop i spots) ≡ firstSpot at spots)

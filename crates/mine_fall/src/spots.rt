@@ -1,23 +1,21 @@
-// Who stands where. Creatures are asked for by their places, the numbers of their cells, which are lent.
-use crate::AREA;
-use crate::EMPTY;
-use crate::Enemy;
-use crate::H;
-use crate::MAX_ENEMIES;
-use crate::W;
+// Who stands where, by places: creatures are asked for at many cells, and a place is one number to compare.
 use found::Found;
-ghost use mathlib.Core.Bool.{true};
+use mine_state::AREA;
+use mine_state::EMPTY;
+use mine_state::H;
+use mine_state::MAX_ENEMIES;
+use mine_state::W;
+ghost use mathlib.Core.Bool.{cond};
 ghost use mathlib.Core.Path.{_≡_};
 ghost use lib.ListN.{length};
-ghost use Rattle.mine_state.specs.State.{MAX-ENEMIES};
-ghost use Rattle.mine_state.specs.Spots.{onMap, allOnMap, spotOr, spotsFrom, firstSpot, freeSpot, Lent};
+ghost use Rattle.mine_state.specs.State.{AREA, MAX-ENEMIES};
+ghost use Rattle.mine_fall.specs.Spots.{firstSpot, freeSpot, Lent};
+ghost use Rattle.mine_fall.specs.Places.{Placed, Spots};
 
 // The place of a creature that is there, and AREA, which is no place, for a slot past the count.
-fn spot_or(there: bool, e: Enemy) -> usize
-    requires { ⌜ onMap e ≡ true ⌝ }
-    ensures { λ r. ⌜ r ≡ spotOr there e ⌝ }
+fn spot_or(there: bool, at: usize) -> usize
+    ensures { λ r. ⌜ r ≡ cond there at AREA ⌝ }
 {
-    let at = e.y * W + e.x;
     if there {
         return at;
     }
@@ -25,15 +23,18 @@ fn spot_or(there: bool, e: Enemy) -> usize
 }
 
 // Where the creatures stand.
-pub fn spots_of(enemies: [Enemy; MAX_ENEMIES], count: usize) -> [usize; MAX_ENEMIES]
-    requires { ⌜ allOnMap enemies ≡ true ⌝ }
-    ensures { λ r. ⌜ r ≡ spotsFrom count enemies ⌝ }
+pub fn spots_of(
+    xs: &[usize; MAX_ENEMIES],
+    ys: &[usize; MAX_ENEMIES],
+    count: usize,
+) -> [usize; MAX_ENEMIES]
+    requires { ⌜ Placed (now xs) (now ys) ⌝ }
+    ensures { λ r. ⌜ Spots (now (xs .entry)) (now (ys .entry)) count r ⌝ }
 {
     let mut out: [usize; MAX_ENEMIES] = [AREA; MAX_ENEMIES];
     let mut i: usize = 0;
     while i < MAX_ENEMIES {
-        let e = enemies[i];
-        let at = spot_or(i < count, e);
+        let at = spot_or(i < count, ys[i] * W + xs[i]);
         out[i] = at;
         i += 1;
     }
