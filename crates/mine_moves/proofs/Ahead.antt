@@ -1,51 +1,55 @@
 -- The cell one step away, by what is added to x and to y. Assumes nothing.
 use mathlib.Core.Bool.{Bool, true, false, cond, _||_}
-use mathlib.Core.Path.{_≡_, refl, sym, _∙_, ap, subst}
-use Prim.Native.Nat.{ℕ, _+_, _-_, _<_, _≤_}
+use mathlib.Core.Path.{_≡_, refl, sym, _∙_, ap}
+use Prim.Native.Nat.{ℕ, _+_, _-_, _*_, _/_, _^_, _<_, _≤_}
 use native.Mathlib.Omega.{arith}
-use mir.Val.{boolByte}
+use lib.Bits.{bitAnd}
 use lib.Dec.{eqb, ltb}
 use borrow.Author.Tests.{eqb-true, eqb-false, ltb-true, ltb-false, lt-ltb, le-ltb, ne-eqb}
 use Rattle.laws.proofs.Choice.{or-left, or-right}
 use Rattle.mine_state.specs.State.{W, H}
 use Rattle.mine_rules.specs.declared.Ahead.{Ahead}
 use Rattle.mine_rules.specs.declared.Ahead.the-variants.{Cell, Off}
-use Rattle.mine_rules.specs.Ways.{UP, RIGHT, DOWN, cellIf, nextCell, OnGrid}
+use Rattle.mine_rules.specs.Ways.{UP, RIGHT, DOWN, LEFT, cellIf, nextCell, OnGrid}
 use Rattle.mine_moves.specs.Steps.{rightOf, downOf}
 
--- what a step adds, as the code computes it
-bit-small : (b : Bool) → boolByte b ≤ 1
-bit-small true = omega arith
-bit-small false = omega arith
+-- the two bits of a direction
+module _ (d : ℕ) {l : ℕ} (e : l ≡ cond (ltb d LEFT) d LEFT) where
+  pub capped : l ≤ 3
+  capped = go (ltb d LEFT) refl e
+    where
+      go : (t : Bool) → ltb d LEFT ≡ t → l ≡ cond t d LEFT → l ≤ 3
+      go true q f = let h = ltb-true d LEFT q in omega arith
+      go false q f = omega arith
 
-pub right-fits : (d : ℕ) → (1 + boolByte (eqb d RIGHT) ≤ 2) × (boolByte (ltb DOWN d) ≤ 1 + boolByte (eqb d RIGHT))
-right-fits d = (omega (arith, bit-small (eqb d RIGHT)), omega (arith, bit-small (ltb DOWN d)))
+  -- a direction, or all that are past the last
+  ways : (u r w : Bool) → eqb d UP ≡ u → eqb d RIGHT ≡ r → eqb d DOWN ≡ w → l ≡ cond u 0 (cond r 1 (cond w 2 3))
+  ways true r w p q s = let z = eqb-true d UP p in rw z at e
+  ways false true w p q s = let z = eqb-true d RIGHT q in rw z at e
+  ways false false true p q s = let z = eqb-true d DOWN s in rw z at e
+  ways false false false p q s =
+      let a = eqb-false d UP p in
+      let b = eqb-false d RIGHT q in
+      let c = eqb-false d DOWN s in
+      e ∙ ap (λ (t : Bool). cond t d LEFT) (le-ltb d LEFT (omega arith))
 
-pub down-fits : (d : ℕ) → (1 + boolByte (eqb d DOWN) ≤ 2) × (boolByte (eqb d UP) ≤ 1 + boolByte (eqb d DOWN))
-down-fits d = (omega (arith, bit-small (eqb d DOWN)), omega (arith, bit-small (eqb d UP)))
+right-bits : (u r w : Bool) → bitAnd (25 / 2 ^ (2 * cond u 0 (cond r 1 (cond w 2 3)))) 3 ≡ cond u 1 (cond r 2 (cond w 1 0))
+right-bits true r w = refl
+right-bits false true w = refl
+right-bits false false true = refl
+right-bits false false false = refl
 
-abbrev ByBits : ℕ → Type 0
-ByBits d = (1 + boolByte (eqb d RIGHT) - boolByte (ltb DOWN d) ≡ rightOf d) × (1 + boolByte (eqb d DOWN) - boolByte (eqb d UP) ≡ downOf d)
+down-bits : (u r w : Bool) → bitAnd (100 / 2 ^ (2 * cond u 0 (cond r 1 (cond w 2 3)))) 3 ≡ cond u 0 (cond r 1 (cond w 2 1))
+down-bits true r w = refl
+down-bits false true w = refl
+down-bits false false true = refl
+down-bits false false false = refl
 
-by-bits : (d : ℕ) → ByBits d
-by-bits d = go (eqb d UP) (eqb d RIGHT) (eqb d DOWN) refl refl refl
-  where
-    go : (u r w : Bool) → eqb d UP ≡ u → eqb d RIGHT ≡ r → eqb d DOWN ≡ w → ByBits d
-    go true r w p q s = subst ByBits (sym (eqb-true d UP p)) (refl, refl)
-    go false true w p q s = subst ByBits (sym (eqb-true d RIGHT q)) (refl, refl)
-    go false false true p q s = subst ByBits (sym (eqb-true d DOWN s)) (refl, refl)
-    go false false false p q s =
-        let a = eqb-false d UP p in
-        let b = eqb-false d RIGHT q in
-        let c = eqb-false d DOWN s in
-        let l = lt-ltb DOWN d (omega arith) in
-        rw (p, q, s, l) (refl, refl)
+pub right-way : (d : ℕ) {l : ℕ} → l ≡ cond (ltb d LEFT) d LEFT → bitAnd (25 / 2 ^ (2 * l)) 3 ≡ rightOf d
+right-way d e = rw (ways d e (eqb d UP) (eqb d RIGHT) (eqb d DOWN) refl refl refl) (right-bits (eqb d UP) (eqb d RIGHT) (eqb d DOWN))
 
-pub right-way : (d : ℕ) → 1 + boolByte (eqb d RIGHT) - boolByte (ltb DOWN d) ≡ rightOf d
-right-way d = by-bits d .0
-
-pub down-way : (d : ℕ) → 1 + boolByte (eqb d DOWN) - boolByte (eqb d UP) ≡ downOf d
-down-way d = by-bits d .1
+pub down-way : (d : ℕ) {l : ℕ} → l ≡ cond (ltb d LEFT) d LEFT → bitAnd (100 / 2 ^ (2 * l)) 3 ≡ downOf d
+down-way d e = rw (ways d e (eqb d UP) (eqb d RIGHT) (eqb d DOWN) refl refl refl) (down-bits (eqb d UP) (eqb d RIGHT) (eqb d DOWN))
 
 -- the parts of a step are small
 small : (u r w : Bool) → (cond u 1 (cond r 2 (cond w 1 0)) ≤ 2) × (cond u 0 (cond r 1 (cond w 2 1)) ≤ 2)
