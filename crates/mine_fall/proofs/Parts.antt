@@ -1,14 +1,14 @@
 -- Places and creatures by the arrays that they are taken apart into. Assumes nothing.
 use mathlib.Core.Bool.{Bool, true, false, cond}
 use mathlib.Core.List.{List, []}
-use mathlib.Core.Path.{_≡_, refl, sym, _∙_, ap, subst}
-use Prim.Native.Nat.{ℕ, _+_, _-_, _<_}
+use mathlib.Core.Path.{_≡_, sym, _∙_, ap, subst}
+use Prim.Native.Nat.{ℕ, _-_, _<_}
 use native.Mathlib.Omega.{arith}
 use lib.Dec.{ltb}
 use lib.ListN.{length, getD, set, length-set}
 use Rattle.mine_state.specs.declared.Mine.{Mine}
 use Rattle.mine_state.specs.declared.Enemy.{Enemy}
-use Rattle.mine_state.specs.State.{W, H, AREA, MAX-ENEMIES, place, blankSlot, onMap, allOnMap}
+use Rattle.mine_state.specs.State.{AREA, MAX-ENEMIES, place, blankSlot, onMap, allOnMap}
 use Rattle.mine_fall.specs.Spots.{spotOr, spotsFrom}
 use Rattle.mine_state.specs.WellFormed.{Sound}
 use Rattle.mine_state.proofs.Creatures.{map-inside, slot-on-map}

@@ -5,18 +5,17 @@ use mathlib.Core.Path.{_≡_, refl, sym, _∙_, ap}
 use Prim.Native.Nat.{ℕ, zero, suc, _+_, _<_, _≤_, _-_}
 use native.Mathlib.Nat.{le-of-suc-le-suc, not-suc-le-zero}
 use native.Mathlib.Omega.{arith}
-use lib.Dec.{eqb, ltb, leb}
+use lib.Dec.{eqb, ltb}
 use lib.ListN.{length, getD, take, set}
-use borrow.Author.Tests.{ne-eqb, ltb-true, ltb-false, lt-ltb, le-ltb, leb-true}
-use Rattle.laws.proofs.Lists.{all-at}
+use borrow.Author.Tests.{ne-eqb, ltb-true, ltb-false, lt-ltb, le-ltb}
 use Rattle.laws.proofs.Choice.{and-left, and-right}
 use Rattle.found.specs.First.{firstFrom, nobody}
 use Rattle.found.specs.declared.Found.the-variants.{At, Nobody}
 use Rattle.mine_state.specs.declared.Mine.{Mine}
 use Rattle.mine_state.specs.declared.Enemy.{Enemy}
-use Rattle.mine_state.specs.State.{onMap, allOnMap, W, H, AREA, place, onGrid, standsAt, firstAt, playerAt, emptyAt, freeAt, blankSlot}
+use Rattle.mine_state.specs.State.{onMap, allOnMap, W, H, AREA, place, standsAt, firstAt, playerAt, emptyAt, freeAt, blankSlot}
 use Rattle.mine_fall.specs.Spots.{spotOr, spotsFrom, isSpot, firstSpot, freeSpot, Spotted, Stand}
-use Rattle.mine_state.proofs.Cells.{on-grid, same-place, empty-inside}
+use Rattle.mine_state.proofs.Cells.{same-place, empty-inside}
 use Rattle.mine_state.proofs.Creatures.{found-below, map-inside}
 
 -- no creature's place is AREA

@@ -15,8 +15,8 @@ use Rattle.found.specs.First.{first, nobody}
 use Rattle.found.specs.declared.Found.the-variants.{At, Nobody}
 use Rattle.mine_state.specs.declared.Mine.{Mine}
 use Rattle.mine_state.specs.declared.Enemy.{Enemy}
-use Rattle.mine_state.specs.State.{W, H, MAX-ENEMIES, EMPTY, codeIn, emptyAt, standsAt, firstAt, playerAt, blankSlot, onMap, allOnMap}
-use Rattle.mine_state.specs.Change.{withCreature, killed}
+use Rattle.mine_state.specs.State.{W, H, EMPTY, codeIn, emptyAt, standsAt, firstAt, onMap, allOnMap}
+use Rattle.mine_state.specs.Change.{withCreature}
 use Rattle.mine_state.proofs.Cells.{code-empty}
 use Rattle.mine_state.proofs.Creatures.{map-inside, slot-on-map}
 use Rattle.mine_rules.specs.declared.Ahead.{Ahead}

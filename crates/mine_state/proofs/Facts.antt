@@ -1,8 +1,6 @@
 -- What a state that is not refused tells, part by part, and back. Assumes nothing.
 use mathlib.Core.Bool.{Bool, true, _&&_}
-use mathlib.Core.List.{List}
-use mathlib.Core.Path.{_≡_, refl, sym}
-use Prim.Native.Nat.{ℕ}
+use mathlib.Core.Path.{_≡_, sym}
 use lib.Dec.{leb, eqb}
 use lib.ListN.{length, drop}
 use borrow.Author.Tests.{eqb-true, leb-true, eq-eqb, le-leb}

@@ -1,9 +1,9 @@
 -- `mine_pass::go_on` meets its contract. Assumes nothing.
 use mathlib.Core.List.{List}
-use mathlib.Core.Path.{_≡_, refl, sym, _∙_, ap}
+use mathlib.Core.Path.{_≡_, sym, _∙_, ap}
 use borrow.Author.Needs.{needs}
 use Rattle.refusal.specs.Refusal.{NONE}
-use Rattle.answer.specs.declared.Answer.the-variants.{GoingOn, Quit}
+use Rattle.answer.specs.declared.Answer.the-variants.{Quit}
 use Rattle.mine_state.specs.declared.Enemy.{Enemy}
 use Rattle.mine_state.specs.declared.Mine.{Mine}
 use Rattle.mine_state.proofs.Facts.{sound}
@@ -12,7 +12,7 @@ use Rattle.mine_apart.proofs.Joined.{joined-of, apart-of}
 use Rattle.mine_moves.specs.Steps.{playing, deadIf}
 use Rattle.mine_pass.specs.Pass.{still, afterKeys}
 use Rattle.mine_pass.proofs.Answers.{after-quit, after-ticks}
-use Rattle.mine_turn.proofs.Taken.{ready, keyedGame, keyed-state, falling, fallenGame, fallen-state, walkers}
+use Rattle.mine_turn.proofs.Taken.{ready, keyed-state, falling, fallenGame, fallen-state, walkers}
 use Rattle.mine_turn.proofs.go_on.Statement.{statement}
 use Rattle.mine_turn.proofs.go_on.Tie as tie
 use Rattle.mine_turn.proofs.go_on.Reads as reads

@@ -1,5 +1,5 @@
 use mathlib.Core.List.{List, map}
-use mathlib.Core.Path.{_≡_, refl, sym, _∙_, ap}
+use mathlib.Core.Path.{refl, sym, _∙_, ap}
 use native.Mathlib.Omega.{arith}
 use borrow.Author.Needs.{needs}
 use Rattle.mine_state.specs.declared.Enemy.{Enemy}

@@ -1,11 +1,8 @@
-use mathlib.Core.List.{List, map}
-use mathlib.Core.Path.{_≡_, sym, _∙_, ap}
-use lib.ListN.{length, length-map}
+use mathlib.Core.Path.{sym, _∙_, ap}
 use borrow.Author.Needs.{needs}
-use Rattle.mine_state.specs.State.{MAX-ENEMIES}
 use Rattle.mine_state.proofs.Facts.{sound}
 use Rattle.mine_rules.specs.Tick.{ticked}
-use Rattle.mine_apart.specs.Apart.{xOf, yOf, dirOf, joined, standing, Apart}
+use Rattle.mine_apart.specs.Apart.{standing}
 use Rattle.mine_apart.proofs.Joined.{joined-of, apart-of}
 use Rattle.mine_moves.specs.Steps.{deadIf}
 use Rattle.mine_moves.proofs.ticks.move_enemies.Statement.{statement}

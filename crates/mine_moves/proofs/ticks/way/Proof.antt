@@ -1,5 +1,4 @@
 use mathlib.Core.Path.{sym, _∙_}
-use native.Mathlib.Omega.{arith}
 use borrow.Author.Needs.{needs}
 use Rattle.mine_state.proofs.Creatures.{map-inside}
 use Rattle.mine_rules.specs.Ways.{OnGrid}
