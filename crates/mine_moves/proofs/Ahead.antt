@@ -1,10 +1,11 @@
 -- The cell one step away, by what is added to x and to y. Assumes nothing.
 use mathlib.Core.Bool.{Bool, true, false, cond, _||_}
+use mathlib.Core.List.{List, [], _∷_}
 use mathlib.Core.Path.{_≡_, refl, sym, _∙_, ap}
-use Prim.Native.Nat.{ℕ, _+_, _-_, _*_, _/_, _^_, _<_, _≤_}
+use Prim.Native.Nat.{ℕ, _+_, _-_, _<_, _≤_}
 use native.Mathlib.Omega.{arith}
-use lib.Bits.{bitAnd}
 use lib.Dec.{eqb, ltb}
+use lib.ListN.{getD}
 use borrow.Author.Tests.{eqb-true, eqb-false, ltb-true, ltb-false, lt-ltb, le-ltb, ne-eqb}
 use Rattle.laws.proofs.Choice.{or-left, or-right}
 use Rattle.mine_state.specs.State.{W, H}
@@ -13,7 +14,7 @@ use Rattle.mine_rules.specs.declared.Ahead.the-variants.{Cell, Off}
 use Rattle.mine_rules.specs.Ways.{UP, RIGHT, DOWN, LEFT, cellIf, nextCell, OnGrid}
 use Rattle.mine_moves.specs.Steps.{rightOf, downOf}
 
--- the two bits of a direction
+-- a direction, or the last for all that are past it
 module _ (d : ℕ) {l : ℕ} (e : l ≡ cond (ltb d LEFT) d LEFT) where
   pub capped : l ≤ 3
   capped = go (ltb d LEFT) refl e
@@ -33,23 +34,29 @@ module _ (d : ℕ) {l : ℕ} (e : l ≡ cond (ltb d LEFT) d LEFT) where
       let c = eqb-false d DOWN s in
       e ∙ ap (λ (t : Bool). cond t d LEFT) (le-ltb d LEFT (omega arith))
 
-right-bits : (u r w : Bool) → bitAnd (25 / 2 ^ (2 * cond u 0 (cond r 1 (cond w 2 3)))) 3 ≡ cond u 1 (cond r 2 (cond w 1 0))
-right-bits true r w = refl
-right-bits false true w = refl
-right-bits false false true = refl
-right-bits false false false = refl
+abbrev rights : List ℕ
+rights = 1 ∷ 2 ∷ 1 ∷ 0 ∷ []
 
-down-bits : (u r w : Bool) → bitAnd (100 / 2 ^ (2 * cond u 0 (cond r 1 (cond w 2 3)))) 3 ≡ cond u 0 (cond r 1 (cond w 2 1))
-down-bits true r w = refl
-down-bits false true w = refl
-down-bits false false true = refl
-down-bits false false false = refl
+abbrev downs : List ℕ
+downs = 0 ∷ 1 ∷ 2 ∷ 1 ∷ []
 
-pub right-way : (d : ℕ) {l : ℕ} → l ≡ cond (ltb d LEFT) d LEFT → bitAnd (25 / 2 ^ (2 * l)) 3 ≡ rightOf d
-right-way d e = rw (ways d e (eqb d UP) (eqb d RIGHT) (eqb d DOWN) refl refl refl) (right-bits (eqb d UP) (eqb d RIGHT) (eqb d DOWN))
+right-looked : (u r w : Bool) → getD rights (cond u 0 (cond r 1 (cond w 2 3))) 0 ≡ cond u 1 (cond r 2 (cond w 1 0))
+right-looked true r w = refl
+right-looked false true w = refl
+right-looked false false true = refl
+right-looked false false false = refl
 
-pub down-way : (d : ℕ) {l : ℕ} → l ≡ cond (ltb d LEFT) d LEFT → bitAnd (100 / 2 ^ (2 * l)) 3 ≡ downOf d
-down-way d e = rw (ways d e (eqb d UP) (eqb d RIGHT) (eqb d DOWN) refl refl refl) (down-bits (eqb d UP) (eqb d RIGHT) (eqb d DOWN))
+down-looked : (u r w : Bool) → getD downs (cond u 0 (cond r 1 (cond w 2 3))) 0 ≡ cond u 0 (cond r 1 (cond w 2 1))
+down-looked true r w = refl
+down-looked false true w = refl
+down-looked false false true = refl
+down-looked false false false = refl
+
+pub right-way : (d : ℕ) {l : ℕ} → l ≡ cond (ltb d LEFT) d LEFT → getD rights l 0 ≡ rightOf d
+right-way d e = rw (ways d e (eqb d UP) (eqb d RIGHT) (eqb d DOWN) refl refl refl) (right-looked (eqb d UP) (eqb d RIGHT) (eqb d DOWN))
+
+pub down-way : (d : ℕ) {l : ℕ} → l ≡ cond (ltb d LEFT) d LEFT → getD downs l 0 ≡ downOf d
+down-way d e = rw (ways d e (eqb d UP) (eqb d RIGHT) (eqb d DOWN) refl refl refl) (down-looked (eqb d UP) (eqb d RIGHT) (eqb d DOWN))
 
 -- the parts of a step are small
 small : (u r w : Bool) → (cond u 1 (cond r 2 (cond w 1 0)) ≤ 2) × (cond u 0 (cond r 1 (cond w 2 1)) ≤ 2)

@@ -9,11 +9,11 @@ ghost use lib.Dec.{ltb};
 ghost use Rattle.mine_rules.specs.Ways.{nextCell, OnGrid};
 ghost use Rattle.mine_moves.specs.Steps.{rightOf, downOf};
 
-// One more than what a step adds to x and to y: two bits for each of left, down, right, up. A creature tries every direction, and
-// is fastest where none is a branch.
-const RIGHTWARD: usize = 0b00_01_10_01;
+// One more than what a step adds to x and to y: up, right, down, left. A creature tries every direction, and is fastest where none is
+// a branch.
+const RIGHTWARD: [usize; 4] = [1, 2, 1, 0];
 
-const DOWNWARD: usize = 0b01_10_01_00;
+const DOWNWARD: [usize; 4] = [0, 1, 2, 1];
 
 fn least(a: u8, b: u8) -> u8
     ensures { λ r. ⌜ r ≡ cond (ltb a b) a b ⌝ }
@@ -27,13 +27,15 @@ fn least(a: u8, b: u8) -> u8
 fn rightward(dir: u8) -> usize
     ensures { λ r. ⌜ r ≡ rightOf dir ⌝ }
 {
-    (RIGHTWARD >> (2 * least(dir, LEFT))) & 3
+    let i = least(dir, LEFT) as usize;
+    RIGHTWARD[i]
 }
 
 fn downward(dir: u8) -> usize
     ensures { λ r. ⌜ r ≡ downOf dir ⌝ }
 {
-    (DOWNWARD >> (2 * least(dir, LEFT))) & 3
+    let i = least(dir, LEFT) as usize;
+    DOWNWARD[i]
 }
 
 // One step from (x, y) in the direction dir.
