@@ -1,12 +1,15 @@
-// The calls that bench/ measures with the check, under plain names. They stand apart from `measured`, so that each rule has one
-// caller there.
+// The passes and the ground report that bench/ measures with the check, under plain names, and the calls of a tick, a step and a move
+// beside them: so the library is compiled as one for a host is, where calls and passes share the rules.
+use cutter::CutterAnswer;
 use cutter::Ground;
 use cutter_state::Cutter;
+use mine::MineAnswer;
 use mine_state::Mine;
 ghost use mathlib.Core.Path.{_≡_};
 ghost use Rattle.mine_pass.specs.Pass as MinePass;
+ghost use Rattle.mine.specs.Calls.{moveCall, gravityCall, tickCall};
 ghost use Rattle.cutter_pass.specs.Pass.{passAt};
-ghost use Rattle.cutter.specs.Calls.{reportCall};
+ghost use Rattle.cutter.specs.Calls.{stepCall, enemiesCall, reportCall};
 
 #[no_mangle]
 pub extern "C" fn call_mine_pass(m: Mine, keys: &[u8], time: u32, first: u32, second: u32) -> Mine
@@ -36,4 +39,39 @@ pub extern "C" fn call_cutter_ground(c: Cutter) -> Ground
     ensures { λ r. ⌜ r ≡ reportCall c ⌝ }
 {
     cutter::ground_report(c)
+}
+
+#[no_mangle]
+pub extern "C" fn call_mine_step(m: Mine, dir: u8) -> MineAnswer
+    ensures { λ r. ⌜ r ≡ moveCall m dir ⌝ }
+{
+    mine::step_player(m, dir)
+}
+
+#[no_mangle]
+pub extern "C" fn call_mine_gravity(m: Mine) -> MineAnswer
+    ensures { λ r. ⌜ r ≡ gravityCall m ⌝ }
+{
+    mine::gravity(m)
+}
+
+#[no_mangle]
+pub extern "C" fn call_mine_tick(m: Mine) -> MineAnswer
+    ensures { λ r. ⌜ r ≡ tickCall m ⌝ }
+{
+    mine::move_enemies(m)
+}
+
+#[no_mangle]
+pub extern "C" fn call_cutter_step(c: Cutter) -> CutterAnswer
+    ensures { λ r. ⌜ r ≡ stepCall c ⌝ }
+{
+    cutter::step_player(c)
+}
+
+#[no_mangle]
+pub extern "C" fn call_cutter_tick(c: Cutter) -> CutterAnswer
+    ensures { λ r. ⌜ r ≡ enemiesCall c ⌝ }
+{
+    cutter::step_enemies(c)
 }
