@@ -8,8 +8,8 @@ use Rattle.mine_state.specs.declared.Mine.{Mine}
 use Rattle.mine_state.specs.State.{AREA, MAX-ENEMIES, codeIn, CellOf}
 use Rattle.mine_fall.specs.Spots.{freeSpot, Stand}
 use Rattle.mine_state.specs.Change.{withGrid, withMarks, withCoins, killed}
-use Rattle.mine_fall.specs.declared.Fell.{Fell}
-use Rattle.mine_fall.specs.declared.Fell.the-variants.{Quiet, Collected, Crushed, Squashed}
+use Rattle.mine_fall.specs.declared.cells.Fell.{Fell}
+use Rattle.mine_fall.specs.declared.cells.Fell.the-variants.{Quiet, Collected, Crushed, Squashed}
 use Rattle.mine_rules.specs.Gravity.{isObject, without}
 
 -- a cell of a lent grid and its marks

@@ -9,8 +9,8 @@ use Rattle.mine_state.specs.declared.Mine.{Mine}
 use Rattle.mine_state.specs.State.{W, H, AREA, MAX-ENEMIES}
 use Rattle.mine_fall.specs.Spots.{spotsFrom}
 use Rattle.mine_fall.proofs.Places.{spots-without, length-spots}
-use Rattle.mine_fall.specs.declared.Fell.{Fell}
-use Rattle.mine_fall.specs.declared.Fell.the-variants.{Squashed}
+use Rattle.mine_fall.specs.declared.cells.Fell.{Fell}
+use Rattle.mine_fall.specs.declared.cells.Fell.the-variants.{Squashed}
 use Rattle.mine_rules.specs.Gravity.{cellFall, gravityOf, without}
 use Rattle.mine_apart.specs.Apart.{joined, Apart}
 use Rattle.mine_fall.specs.Falls.{happened, lent, Below}
@@ -21,10 +21,10 @@ use Rattle.mine_fall.proofs.gravity_on.Statement.{statement}
 use Rattle.mine_fall.proofs.gravity_on.Tie as tie
 use Rattle.mine_fall.proofs.gravity_on.Reads as reads
 use Rattle.mine_fall.proofs.gravity_on.Lts as lts
-use Rattle.mine_fall.proofs.cell_fall.Reads as cell-fall-reads
+use Rattle.mine_fall.proofs.cells.cell_fall.Reads as cell-fall-reads
 use Rattle.mine_fall.proofs.leave.Reads as leave-reads
 use Rattle.mine_fall.proofs.leave_dir.Reads as leave-dir-reads
-use Rattle.mine_fall.proofs.quiet.Reads as quiet-reads
+use Rattle.mine_fall.proofs.cells.quiet.Reads as quiet-reads
 use Rattle.mine_fall.proofs.spots.spots_of.Reads as spots-of-reads
 
 abbrev Inv-loop2 : tie.InvT-loop2

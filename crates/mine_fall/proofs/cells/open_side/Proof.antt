@@ -1,7 +1,7 @@
 use mathlib.Core.Path.{sym, _∙_}
 use borrow.Author.Needs.{needs}
-use Rattle.mine_fall.proofs.open_side.Statement.{statement}
-use Rattle.mine_fall.proofs.open_side.Tie as tie
+use Rattle.mine_fall.proofs.cells.open_side.Statement.{statement}
+use Rattle.mine_fall.proofs.cells.open_side.Tie as tie
 
 free-requires : tie.Need-free-requires
 free-requires c κs = search needs

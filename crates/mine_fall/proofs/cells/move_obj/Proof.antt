@@ -2,8 +2,8 @@ use mathlib.Core.Path.{refl}
 use native.Mathlib.Omega.{arith}
 use borrow.Author.Needs.{needs}
 use Rattle.mine_rules.specs.Gravity.{carried}
-use Rattle.mine_fall.proofs.move_obj.Statement.{statement}
-use Rattle.mine_fall.proofs.move_obj.Tie as tie
+use Rattle.mine_fall.proofs.cells.move_obj.Statement.{statement}
+use Rattle.mine_fall.proofs.cells.move_obj.Tie as tie
 
 mul-i : tie.Need-mul-i
 mul-i c = search needs

@@ -3,8 +3,8 @@ use native.Mathlib.Omega.{arith}
 use borrow.Author.Needs.{needs}
 use borrow.Author.Tests.{eq-eqb, ne-eqb}
 use Rattle.mine_rules.specs.Gravity.{overPlayer, rested}
-use Rattle.mine_fall.proofs.over_player.Statement.{statement}
-use Rattle.mine_fall.proofs.over_player.Tie as tie
+use Rattle.mine_fall.proofs.cells.over_player.Statement.{statement}
+use Rattle.mine_fall.proofs.cells.over_player.Tie as tie
 
 mul-i : tie.Need-mul-i
 mul-i c = search needs

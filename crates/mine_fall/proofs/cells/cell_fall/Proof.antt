@@ -5,8 +5,8 @@ use borrow.Author.Tests.{eq-eqb, ne-eqb, lt-leb, le-leb, not-true, not-false}
 use Rattle.mine_rules.specs.Gravity.{cellFall, overOther, rested}
 use Rattle.mine_fall.specs.Falls.{lent}
 use Rattle.mine_fall.proofs.Lent.{cell-rests}
-use Rattle.mine_fall.proofs.cell_fall.Statement.{statement}
-use Rattle.mine_fall.proofs.cell_fall.Tie as tie
+use Rattle.mine_fall.proofs.cells.cell_fall.Statement.{statement}
+use Rattle.mine_fall.proofs.cells.cell_fall.Tie as tie
 
 mul-i : tie.Need-mul-i
 mul-i c = search needs

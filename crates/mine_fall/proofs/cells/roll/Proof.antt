@@ -11,12 +11,12 @@ use Rattle.mine_fall.specs.Spots.{Stand}
 use Rattle.mine_rules.specs.Gravity.{openSide, rolled}
 use Rattle.mine_fall.specs.Falls.{lent}
 use Rattle.mine_fall.proofs.Lent.{is-open, open-inside}
-use Rattle.mine_fall.proofs.roll.Statement.{statement}
-use Rattle.mine_fall.proofs.roll.Tie as tie
-use Rattle.mine_fall.proofs.roll.Reads as reads
-use Rattle.mine_fall.proofs.roll.Lts as lts
-use Rattle.mine_fall.proofs.move_obj.Reads as move-obj-reads
-use Rattle.mine_fall.proofs.open_side.Reads as open-side-reads
+use Rattle.mine_fall.proofs.cells.roll.Statement.{statement}
+use Rattle.mine_fall.proofs.cells.roll.Tie as tie
+use Rattle.mine_fall.proofs.cells.roll.Reads as reads
+use Rattle.mine_fall.proofs.cells.roll.Lts as lts
+use Rattle.mine_fall.proofs.cells.move_obj.Reads as move-obj-reads
+use Rattle.mine_fall.proofs.cells.open_side.Reads as open-side-reads
 
 -- past the left side: there is none, or it is not open
 abbrev Past : Type 0

@@ -5,8 +5,8 @@ use borrow.Author.Needs.{needs}
 use Rattle.mine_fall.proofs.Places.{spot-below}
 use Rattle.mine_rules.specs.Gravity.{overEmpty, overCreature, without, rested}
 use Rattle.mine_fall.proofs.Lent.{on-player, off-player, found}
-use Rattle.mine_fall.proofs.over_empty.Statement.{statement}
-use Rattle.mine_fall.proofs.over_empty.Tie as tie
+use Rattle.mine_fall.proofs.cells.over_empty.Statement.{statement}
+use Rattle.mine_fall.proofs.cells.over_empty.Tie as tie
 
 add-by : tie.Need-add-by
 add-by c = search needs

@@ -8,8 +8,8 @@ use borrow.Author.Tests.{not-true}
 use Rattle.mine_state.specs.State.{W}
 use Rattle.mine_fall.specs.Falls.{Quietly}
 use Rattle.mine_fall.proofs.Lent.{quiet-more}
-use Rattle.mine_fall.proofs.quiet.Statement.{statement}
-use Rattle.mine_fall.proofs.quiet.Tie as tie
+use Rattle.mine_fall.proofs.cells.quiet.Statement.{statement}
+use Rattle.mine_fall.proofs.cells.quiet.Tie as tie
 
 abbrev Inv-loop : tie.InvT-loop
 Inv-loop grid y some₀ x₀ some x = (x ≤ W) × (some ≡ false → Quietly grid y x)
