@@ -5,14 +5,21 @@ ghost use Rattle.turns.specs.Turns.{limitAt, drawsFrom};
 // The most draws of a call: four for each of 16 creatures.
 pub const DRAWS: usize = 64;
 
+// The columns and rows inside the ring, and the ways of a velocity's part.
+const COLUMNS: u8 = 62;
+
+const ROWS: u8 = 30;
+
+const WAYS: u8 = 2;
+
 // A draw is below 62, 30, 2 or 2, by its place.
 fn limit(place: usize) -> u8
     ensures { λ r. ⌜ r ≡ limitAt place ⌝ }
 {
     match place % 4 {
-        0 => 62,
-        1 => 30,
-        _ => 2,
+        0 => COLUMNS,
+        1 => ROWS,
+        _ => WAYS,
     }
 }
 
