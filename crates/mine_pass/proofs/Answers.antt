@@ -1,10 +1,10 @@
 -- The ways through a pass, each as the definition has it. Assumes nothing.
-use mathlib.Core.Bool.{Bool, true, false, cond}
+use mathlib.Core.Bool.{true, false, cond}
 use mathlib.Core.List.{List}
 use mathlib.Core.Path.{_≡_, sym, _∙_, ap}
 use Prim.Native.Nat.{ℕ}
 use Rattle.refusal.specs.Refusal.{NONE}
-use Rattle.refusal.proofs.Calls.{refused-by, answered-by}
+use Rattle.refusal.proofs.Calls.{refused-by}
 use Rattle.answer.specs.declared.Answer.the-variants.{GoingOn, Won, Dead, Quit}
 use Rattle.pace.specs.declared.Ticks.{Ticks}
 use Rattle.pace.specs.Pace.{ticked}
@@ -13,7 +13,6 @@ use Rattle.mine_state.specs.WellFormed.{refusalOf}
 use Rattle.mine_rules.specs.Tick as Tick
 use Rattle.mine_rules.specs.Gravity.{gravityOf}
 use Rattle.mine_pass.specs.declared.Played.{Played}
-use Rattle.mine_pass.specs.declared.MineTurn.{MineTurn}
 use Rattle.mine_pass.specs.Pass.{GRAVITY-CYCLES, ENEMY-CYCLES, played, still, afterKeys, passOn, passAt}
 
 module _ (first second time : ℕ) (p : Played) where

@@ -1,6 +1,6 @@
 -- P1 to P3: what the level holds, three steps to the right, and a first creature tick. Assumes nothing.
-use mathlib.Core.Bool.{true, false}
-use mathlib.Core.List.{[], _∷_, map}
+use mathlib.Core.Bool.{false}
+use mathlib.Core.List.{_∷_, map}
 use mathlib.Core.Path.{_≡_, refl, sym, _∙_, ap, subst}
 use lib.ListN.{replicate}
 use Rattle.mine_state.specs.declared.Mine.{Mine}

@@ -1,12 +1,12 @@
-use mathlib.Core.Path.{_≡_, sym, ap, _∙_}
+use mathlib.Core.Path.{sym, ap, _∙_}
 use native.Mathlib.Omega.{arith}
 use borrow.Author.Needs.{needs}
 use borrow.Author.Tests.{eq-eqb, ne-eqb}
 use mir.Facts.{toZ-ofZ}
 use denote.Ref.{now}
 use Rattle.laws.proofs.Lists.{getD-default}
-use Rattle.ground.specs.Cells.{CB-BLACK, CB-FILLED, cellAt}
-use Rattle.cutter_rules.specs.Ahead.{sideOf, diagonalOf}
+use Rattle.ground.specs.Cells.{CB-FILLED}
+use Rattle.cutter_rules.specs.Ahead.{sideOf}
 use Rattle.cutter_rules.proofs.Tick.{gone-there, gone-not}
 use Rattle.cutter_moves.proofs.enemies.go.Statement.{statement}
 use Rattle.cutter_moves.proofs.enemies.go.Tie as tie
