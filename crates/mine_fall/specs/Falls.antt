@@ -1,4 +1,4 @@
--- What the functions over the lent grid, marks and places tell, for `gravity` to put together.
+-- What the functions over the lent grid, marks and places tell, for `gravity_on` to put together. No promise cites it.
 use mathlib.Core.Bool.{Bool, false, _&&_}
 use mathlib.Core.List.{List}
 use mathlib.Core.Path.{_≡_}

@@ -1,4 +1,4 @@
--- The creatures' places, which stand for the creatures where gravity asks who is there.
+-- The creatures' places, which stand for the creatures where gravity asks who is there. No promise cites it.
 use mathlib.Core.Bool.{Bool, true, cond, _&&_, not}
 use mathlib.Core.List.{List, [], _∷_}
 use mathlib.Core.Path.{_≡_}

@@ -1,4 +1,4 @@
--- The picture's parts, as the code draws them one on the other.
+-- The picture's parts, as the code draws them one on the other. No promise cites it.
 use mathlib.Core.Bool.{Bool, cond, _&&_}
 use mathlib.Core.List.{List}
 use mathlib.Core.Path.{_≡_}
