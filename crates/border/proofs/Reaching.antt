@@ -13,10 +13,9 @@ use borrow.Author.Tests.{not-false, ltb-true, lt-ltb, eqb-true, eq-eqb, ne-eqb}
 use Rattle.laws.proofs.Choice.{and-left, and-right, and-both, bool-cases, same?}
 use Rattle.laws.proofs.Lists.{getD-default, any-append}
 use Rattle.ground.specs.Cells.{CN, CB-FILLED, cellAt, rightOf, upOf, downOf}
-use Rattle.ground.specs.Visit.{Holds, Room, Visited, Around}
-use Rattle.ground.proofs.Visit.{holds-in, room-kept}
+use Rattle.ground.specs.Visit.{SEEN, Holds, Room, Visited, Around}
+use Rattle.ground.proofs.Visits.{holds-in, room-kept}
 use Rattle.border.specs.Border.{claimed, among, reach, reachAround}
-use Rattle.border.specs.Tables.{REACHED}
 
 -- what a claimed cell is
 module _ (g : List ℕ) (c : ℕ) where
@@ -67,16 +66,16 @@ none-marked seen c e = eqb-true (getD seen c 0) 0 (not-false (eqb (getD seen c 0
 
 -- the first t of the queue are the cells reached
 pub record Reached (g seen q : List ℕ) (t : ℕ) : Type 0 where
-  pub room : Room g seen q t CB-FILLED REACHED
+  pub room : Room g seen q t CB-FILLED
   pub marks : (c : ℕ) → among c (take t q) ≡ marked seen c
 
 -- one cell more is marked
-pub mark-more : (seen cells : List ℕ) (at : ℕ) → at < length seen → ((c : ℕ) → among c cells ≡ marked seen c) → (c : ℕ) → among c (cells ++ at ∷ []) ≡ marked (set seen at REACHED) c
+pub mark-more : (seen cells : List ℕ) (at : ℕ) → at < length seen → ((c : ℕ) → among c cells ≡ marked seen c) → (c : ℕ) → among c (cells ++ at ∷ []) ≡ marked (set seen at SEEN) c
 mark-more seen cells at h m c =
     any-append (eqb c) cells (at ∷ [])
     ∙ ⊎-elim
-    (λ (e : c ≡ at). rw (eq-eqb c at e, or-true) (sym (ap (λ (n : ℕ). not (eqb n 0)) (subst (λ (n : ℕ). getD (set seen at REACHED) n 0 ≡ REACHED) (sym e) (getD-set-same seen at REACHED 0 h)))))
-    (λ (n : c ≡ at → ⊥). rw (ne-eqb c at n, or-false) (m c ∙ sym (ap (λ (n : ℕ). not (eqb n 0)) (getD-set-other seen at c REACHED 0 n))))
+    (λ (e : c ≡ at). rw (eq-eqb c at e, or-true) (sym (ap (λ (n : ℕ). not (eqb n 0)) (subst (λ (n : ℕ). getD (set seen at SEEN) n 0 ≡ SEEN) (sym e) (getD-set-same seen at SEEN 0 h)))))
+    (λ (n : c ≡ at → ⊥). rw (ne-eqb c at n, or-false) (m c ∙ sym (ap (λ (n : ℕ). not (eqb n 0)) (getD-set-other seen at c SEEN 0 n))))
     (same? c at)
 
 -- the tables after some visits, where the definition has reached these cells
@@ -84,16 +83,16 @@ pub record Steps (g cells : List ℕ) (seen′ q′ : List ℕ) (t′ : ℕ) : T
   pub list : take t′ q′ ≡ cells
   pub reached : Reached g seen′ q′ t′
 
-visit-reaches : {g seen q : List ℕ} {t at : ℕ} {seen′ q′ : List ℕ} {t′ : ℕ} → Reached g seen q t → Visited g seen q t at CB-FILLED REACHED seen′ q′ t′ → Steps g (reach g (take t q) at) seen′ q′ t′
+visit-reaches : {g seen q : List ℕ} {t at : ℕ} {seen′ q′ : List ℕ} {t′ : ℕ} → Reached g seen q t → Visited g seen q t at CB-FILLED seen′ q′ t′ → Steps g (reach g (take t q) at) seen′ q′ t′
 visit-reaches {g} {seen} {q} {t} {at} {seen′} {q′} {t′} r (inl p) =
-    let room : Room g seen′ q′ t′ CB-FILLED REACHED = room-kept (r .room) (inl p) in
+    let room : Room g seen′ q′ t′ CB-FILLED = room-kept (r .room) (inl p) in
     let inn : at < length seen = omega (arith, r .room, holds-in g CB-FILLED at (r .room .kind) (p .holds)) in
     let end : t < length q = omega (arith, r .room .queue, room .room, p .tail) in
     let new : take t′ q′ ≡ take t q ++ at ∷ [] = ap₂ take (p .tail ∙ add-one t) (p .queue) ∙ take-suc-set q t at end in
     let fresh = r .marks at ∙ marked-none seen at (p .fresh) in
     record {
       list = new ∙ sym (reach-new g (take t q) at (holds-claimed g at (r .room .cells) (p .holds)) fresh);
-      reached = record { room = room; marks = λ c. ap (among c) new ∙ mark-more seen (take t q) at inn (r .marks) c ∙ sym (ap (λ (l : List ℕ). marked l c) (p .labels)) };
+      reached = record { room = room; marks = λ c. ap (among c) new ∙ mark-more seen (take t q) at inn (r .marks) c ∙ sym (ap (λ (l : List ℕ). marked l c) (p .marks)) };
     }
 visit-reaches {g} {seen} {q} {t} {at} {seen′} {q′} {t′} r (inr p) =
     let same : take t′ q′ ≡ take t q = ap₂ take (p .tail) (p .queue) in
@@ -101,10 +100,10 @@ visit-reaches {g} {seen} {q} {t} {at} {seen′} {q′} {t′} r (inr p) =
     ⊎-elim (λ m. m) (λ (m : marked seen at ≡ false). absurd (p .why (claimed-holds g at (r .room .cells) e) (none-marked seen at m))) (bool-cases (marked seen at)) in
     record {
       list = same ∙ sym (⊎-elim (λ e. reach-old g (take t q) at (r .marks at ∙ seen-at e)) (reach-off g (take t q) at) (bool-cases (claimed g at)));
-      reached = record { room = room-kept (r .room) (inr p); marks = λ c. ap (among c) same ∙ r .marks c ∙ sym (ap (λ (l : List ℕ). marked l c) (p .labels)) };
+      reached = record { room = room-kept (r .room) (inr p); marks = λ c. ap (among c) same ∙ r .marks c ∙ sym (ap (λ (l : List ℕ). marked l c) (p .marks)) };
     }
 
-pub around-reaches : {g seen q : List ℕ} {t at : ℕ} {seen′ q′ : List ℕ} {t′ : ℕ} → Reached g seen q t → Around g seen q t at CB-FILLED REACHED seen′ q′ t′ → Steps g (reachAround g (take t q) at) seen′ q′ t′
+pub around-reaches : {g seen q : List ℕ} {t at : ℕ} {seen′ q′ : List ℕ} {t′ : ℕ} → Reached g seen q t → Around g seen q t at CB-FILLED seen′ q′ t′ → Steps g (reachAround g (take t q) at) seen′ q′ t′
 unfolding reachAround
 around-reaches {g} {seen} {q} {t} {at} r a =
     let one = visit-reaches r (a .first) in

@@ -13,9 +13,9 @@ use Rattle.laws.proofs.Counts.{tally-le, tally-lose}
 use Rattle.laws.proofs.Lists.{getD-default, getD-replicate-same, any-at}
 use Rattle.laws.proofs.Choice.{below?}
 use Rattle.ground.specs.Cells.{CN, CB-FILLED, onBorder}
-use Rattle.ground.specs.Visit.{Around}
+use Rattle.ground.specs.Visit.{SEEN, Around}
 use Rattle.border.specs.Border.{among, reachAround, walk, toBorder}
-use Rattle.border.specs.Tables.{REACHED, Cleared}
+use Rattle.border.specs.Tables.{Cleared}
 use Rattle.border.proofs.Reaching.{marked, marked-none, Reached, mark-more, around-reaches}
 
 -- the walk at its i-th cell: it ends there, it goes on, or no cell is left
@@ -57,7 +57,7 @@ module _ {g : List ℕ} {start : ℕ} {seen q : List ℕ} {head t : ℕ} (w : Wa
         let e = any-at (eqb at) (take t q) head CN (omega (arith, many)) (eq-eqb at (getD (take t q) head CN) (sym here)) in
         let m = sym (w .reached .marks at) ∙ e in
         ⊎-elim (λ l. l)
-        (λ l. absurd (true≢false (sym m ∙ marked-none seen at (List·getD-eq-default seen 0 {n = at} (omega (arith, w .reached .room .labels))))))
+        (λ l. absurd (true≢false (sym m ∙ marked-none seen at (List·getD-eq-default seen 0 {n = at} (omega (arith, w .reached .room .marks))))))
         (below? at CN)
 
     next : (b : Bool) → onBorder g (getD q head 0) ≡ b → onBorder g (getD (take t q) head CN) ≡ b
@@ -73,7 +73,7 @@ module _ {g : List ℕ} {start : ℕ} {seen q : List ℕ} {head t : ℕ} (w : Wa
         ∙ ap (λ (n : ℕ). walk n g start (take t q) head) (sym left)
         ∙ w .answer
 
-    pub walk-turn : onBorder g (getD q head 0) ≡ false → {seen′ q′ : List ℕ} {t′ : ℕ} → Around g seen q t (getD q head 0) CB-FILLED REACHED seen′ q′ t′ → Walking g start seen′ q′ (head + 1) t′
+    pub walk-turn : onBorder g (getD q head 0) ≡ false → {seen′ q′ : List ℕ} {t′ : ℕ} → Around g seen q t (getD q head 0) CB-FILLED seen′ q′ t′ → Walking g start seen′ q′ (head + 1) t′
     walk-turn e {seen′} {q′} {t′} a =
         let s = around-reaches (w .reached) a in
         let more = subst (λ (c : ℕ). reachAround g (take t q) (getD q head 0) ≡ reachAround g (take t q) c) (sym here) refl in
@@ -90,7 +90,7 @@ module _ {g : List ℕ} {start : ℕ} {seen q : List ℕ} {head t : ℕ} (w : Wa
   walk-none h = sym (none g start (take t q) head (CN - head) (omega (arith, many))) ∙ w .answer
 
 -- the walk begins: start is marked and stands first in the queue
-pub walk-start : {g seen q : List ℕ} {start : ℕ} → Cleared g seen q start → Walking g start (set seen start REACHED) (set q 0 start) 0 1
+pub walk-start : {g seen q : List ℕ} {start : ℕ} → Cleared g seen q start → Walking g start (set seen start SEEN) (set q 0 start) 0 1
 walk-start {g} {seen} {q} {start} c =
     let all : length seen ≡ CN = ap length (c .clear) ∙ length-replicate {A = ℕ} CN 0 in
     let zero-at : (i : ℕ) → getD seen i 0 ≡ 0 = λ i. ap (λ (l : List ℕ). getD l i 0) (c .clear) ∙ getD-replicate-same CN i 0 in
@@ -100,11 +100,10 @@ walk-start {g} {seen} {q} {start} c =
       reached = record {
         room = record {
           cells = c .cells;
-          labels = length-set seen start REACHED ∙ all;
+          marks = length-set seen start SEEN ∙ all;
           queue = length-set q 0 start ∙ c .long;
           kind = omega arith;
-          some = omega arith;
-          room = omega (arith, tally-le 0 seen, tally-lose seen start 0 REACHED inn (zero-at start) (λ e. omega arith));
+          room = omega (arith, tally-le 0 seen, tally-lose seen start 0 SEEN inn (zero-at start) (λ e. omega arith));
         };
         marks = λ i. ap (among i) one ∙ mark-more seen [] start inn (λ j. sym (marked-none seen j (zero-at j))) i;
       };

@@ -1,23 +1,43 @@
 // Closing a cut: the line becomes claimed, then every counted region but one is captured.
-use closing::Cut;
 use ground::CB_FILLED;
 use ground::CB_TRAIL;
 use ground::CN;
 use ground::MAX_ENEMIES;
 use ground::Mover;
-use regions::MAX_COMP;
+use ground::SEEN;
 ghost use mathlib.Core.Path.{_≡_};
 ghost use mathlib.Core.List.{zipWith};
-ghost use Prim.Native.Nat.{_≤_};
 ghost use lib.ListN.{length, take};
 ghost use Rattle.ground.specs.Cells.{CN};
-ghost use Rattle.regions.specs.Regions.{MAX-COMP};
+ghost use Rattle.ground.specs.Visit.{SEEN};
 ghost use Rattle.closing.specs.Closing.{claimLine, lineClaimed, closeCut};
-ghost use Rattle.capture.specs.Steps.{Closable, Countable, Counted, Winner, more, shut, Retained};
+ghost use Rattle.capture.specs.Steps.{KEPT, Closable, having, more, leader, Ordered, keepOf, shut, Retained, Closes, cutOf};
+ghost use Rattle.capture.specs.Choosing.{Choosable, Chosen, Markable, Marked};
 
-struct Herd {
-    enemies: [Mover; MAX_ENEMIES],
-    count: usize,
+// Most regions one cut counts; extra ones stay black.
+pub const MAX_COMP: usize = 48;
+
+// What marks a cell of the region to keep.
+const KEPT: u8 = 2;
+
+// The best region so far: its part of the queue, and its creatures.
+struct Lead {
+    from: usize,
+    to: usize,
+    crowd: u16,
+}
+
+// The region to keep, as a part of the queue, and how many cells were taken from the queue.
+struct Choice {
+    from: usize,
+    to: usize,
+    taken: usize,
+}
+
+// The creatures that remain, with zeros behind them.
+pub struct Herd {
+    pub enemies: [Mover; MAX_ENEMIES],
+    pub count: usize,
 }
 
 fn off_line(cell: u8) -> u8
@@ -38,82 +58,136 @@ fn claim_line(grid: &mut [u8; CN])
     }
 }
 
-// Counts the creatures of each region.
-fn count_enemies(
-    labels: &[u16; CN],
-    enemies: [Mover; MAX_ENEMIES],
-    count: usize,
-    crowd: &mut [u16; MAX_COMP],
-)
-    requires { ⌜ Countable (now labels) enemies count (now crowd) ⌝ }
-    ensures { λ _. ⌜ Counted (now (labels .entry)) (take count enemies) (now (crowd .exit)) ⌝ }
+// How many creatures stand on marked cells.
+fn standing(seen: &[u8; CN], enemies: [Mover; MAX_ENEMIES], count: usize) -> u16
+    requires { ⌜ (length (now seen) ≡ CN) × Closable enemies count ⌝ }
+    ensures { λ r. ⌜ r ≡ having (now (seen .entry)) (take count enemies) SEEN ⌝ }
 {
+    let mut n: u16 = 0;
     let mut i: usize = 0;
     while i < count {
         let e = enemies[i];
         let at = ground::cell_of(e);
-        let l = labels[at] as usize;
-        if 0 < l {
-            crowd[l - 1] += 1;
+        if seen[at] == SEEN {
+            n += 1;
         }
         i += 1;
     }
+    n
 }
 
-fn beats(e: u16, k: u16, most: u16, largest: u16) -> bool
+fn beats(e: u16, k: usize, most: u16, largest: usize) -> bool
     ensures { λ r. ⌜ r ≡ more e k most largest ⌝ }
 {
     (most < e) | ((e == most) & (largest < k))
 }
 
-// The region with the most creatures (ties: the larger one, then the earlier).
-fn best_region(crowd: &[u16; MAX_COMP], sizes: &[u16; MAX_COMP], ncomp: u16) -> u16
-    requires { ⌜ ncomp ≤ MAX-COMP ⌝ }
-    ensures { λ r. ⌜ Winner (now (crowd .entry)) (now (sizes .entry)) ncomp r ⌝ }
+// The region at from .. to, where it has more creatures than the best so far, or as many and more cells.
+fn better(lead: Lead, from: usize, to: usize, crowd: u16) -> Lead
+    requires { ⌜ Ordered lead from to ⌝ }
+    ensures { λ r. ⌜ r ≡ leader lead from to crowd ⌝ }
 {
-    let mut winner: u16 = 0;
-    let mut most: u16 = 0;
-    let mut largest: u16 = 0;
+    if beats(crowd, to - from, lead.crowd, lead.to - lead.from) {
+        return Lead {
+            from: from,
+            to: to,
+            crowd: crowd,
+        };
+    }
+    lead
+}
+
+// Searches the regions in the order of their earliest cells, at most limit of them, and chooses the one to keep: most creatures, then most cells,
+// then the earliest.
+fn choose(
+    grid: &[u8; CN],
+    seen: &mut [u8; CN],
+    queue: &mut [u16; CN],
+    enemies: [Mover; MAX_ENEMIES],
+    count: usize,
+    limit: u16,
+) -> Choice
+    requires { ⌜ Choosable (now grid) (now seen) (now queue) enemies count limit ⌝ }
+    ensures { λ r. ⌜ Chosen limit (now (grid .entry)) (take count enemies) (now (seen .exit)) (now (queue .exit)) (r .from) (r .to) (r .taken) ⌝ }
+{
+    let mut lead = Lead {
+        from: 0,
+        to: 0,
+        crowd: 0,
+    };
     let mut done: u16 = 0;
-    while done < ncomp {
-        let at = done as usize;
-        let e = crowd[at];
-        let k = sizes[at];
-        done += 1;
-        if beats(e, k, most, largest) {
-            winner = done;
-            most = e;
-            largest = k;
+    let mut tail: usize = 0;
+    let mut stood: u16 = 0;
+    let mut start: usize = 0;
+    while start < CN {
+        if grid[start] == ground::CB_BLACK {
+            if seen[start] == 0 {
+                if done == limit {
+                    return Choice {
+                        from: lead.from,
+                        to: lead.to,
+                        taken: tail,
+                    };
+                }
+                let end = regions::search(grid, seen, queue, tail, start);
+                let stand = standing(seen, enemies, count);
+                lead = better(lead, tail, end, stand - stood);
+                tail = end;
+                stood = stand;
+                done += 1;
+            }
         }
+        start += 1;
     }
-    winner
+    Choice {
+        from: lead.from,
+        to: lead.to,
+        taken: tail,
+    }
 }
 
-fn captured(cell: u8, label: u16, winner: u16) -> u8
-    ensures { λ r. ⌜ r ≡ shut winner cell label ⌝ }
+// Marks the cells of the region to keep.
+fn mark(seen: &mut [u8; CN], queue: &[u16; CN], from: usize, to: usize)
+    requires { ⌜ Markable (now seen) (now queue) from to ⌝ }
+    ensures { λ _. ⌜ Marked (now (seen .entry)) (now (queue .entry)) from to (now (seen .exit)) ⌝ }
 {
-    if label == 0 {
-        return cell;
-    }
-    if label == winner { cell } else { CB_FILLED }
-}
-
-// Claims every labelled cell that is not in the region to keep.
-fn claim_rest(grid: &mut [u8; CN], labels: &[u16; CN], winner: u16)
-    requires { ⌜ (length (now grid) ≡ CN) × (length (now labels) ≡ CN) ⌝ }
-    ensures { λ _. ⌜ now (grid .exit) ≡ zipWith (shut winner) (now (grid .entry)) (now (labels .entry)) ⌝ }
-{
-    let mut i: usize = 0;
-    while i < CN {
-        grid[i] = captured(grid[i], labels[i], winner);
+    let mut i: usize = from;
+    while i < to {
+        let at = queue[i] as usize;
+        seen[at] = KEPT;
         i += 1;
     }
 }
 
-// The creatures whose cell has the label winner, in order; zeros behind them.
-fn retain(labels: &[u16; CN], enemies: [Mover; MAX_ENEMIES], count: usize, winner: u16) -> Herd
-    requires { ⌜ (length (now labels) ≡ CN) × Closable enemies count ⌝ }
-    ensures { λ r. ⌜ Retained (now (labels .entry)) winner (take count enemies) r ⌝ }
+// The mark of the cells whose creatures remain: where there is no region, it is none.
+fn keep_of(from: usize, to: usize) -> u8
+    ensures { λ r. ⌜ r ≡ keepOf from to ⌝ }
+{
+    if from < to { KEPT } else { 0 }
+}
+
+fn captured(cell: u8, seen: u8) -> u8
+    ensures { λ r. ⌜ r ≡ shut cell seen ⌝ }
+{
+    if seen == SEEN { CB_FILLED } else { cell }
+}
+
+// Claims every cell of a region that is not kept.
+fn claim_rest(grid: &mut [u8; CN], seen: &[u8; CN])
+    requires { ⌜ (length (now grid) ≡ CN) × (length (now seen) ≡ CN) ⌝ }
+    ensures { λ _. ⌜ now (grid .exit) ≡ zipWith shut (now (grid .entry)) (now (seen .entry)) ⌝ }
+{
+    let mut i: usize = 0;
+    while i < CN {
+        grid[i] = captured(grid[i], seen[i]);
+        i += 1;
+    }
+}
+
+// The creatures whose cell has the mark keep, in order; zeros behind them.
+fn retain(seen: &[u8; CN], enemies: [Mover; MAX_ENEMIES], count: usize, keep: u8) -> Herd
+    requires { ⌜ (length (now seen) ≡ CN) × Closable enemies count ⌝ }
+    ensures { λ r. ⌜ Retained (now (seen .entry)) keep (take count enemies) r ⌝ }
 {
     let nobody = Mover {
         x: 0,
@@ -127,7 +201,7 @@ fn retain(labels: &[u16; CN], enemies: [Mover; MAX_ENEMIES], count: usize, winne
     while i < count {
         let e = enemies[i];
         let at = ground::cell_of(e);
-        if labels[at] == winner {
+        if seen[at] == keep {
             out[n] = e;
             n += 1;
         }
@@ -139,32 +213,22 @@ fn retain(labels: &[u16; CN], enemies: [Mover; MAX_ENEMIES], count: usize, winne
     }
 }
 
-// Closes a finished trail.
-pub fn close_cut(grid: [u8; CN], enemies: [Mover; MAX_ENEMIES], count: usize) -> Cut
-    requires { ⌜ Closable enemies count ⌝ }
-    ensures { λ r. ⌜ r ≡ closeCut MAX-COMP grid (take count enemies) ⌝ }
+// Closes a finished trail on the lent ground; the creatures that remain.
+pub fn close_cut(
+    grid: &mut [u8; CN],
+    enemies: [Mover; MAX_ENEMIES],
+    count: usize,
+    limit: u16,
+) -> Herd
+    requires { ⌜ Closes (now grid) enemies count limit ⌝ }
+    ensures { λ r. ⌜ cutOf (now (grid .exit)) r ≡ closeCut limit (now (grid .entry)) (take count enemies) ⌝ }
 {
-    let mut cells = grid;
-    claim_line(&mut cells);
-    let mut labels = [0u16; CN];
+    claim_line(grid);
+    let mut seen = [0u8; CN];
     let mut queue = [0u16; CN];
-    let mut comp_cells = [0u16; MAX_COMP];
-    let mut comp_enemy = [0u16; MAX_COMP];
-    let ncomp = regions::label_regions(
-        &cells,
-        &mut labels,
-        &mut queue,
-        &mut comp_cells,
-        MAX_COMP as u16,
-    );
-    count_enemies(&labels, enemies, count, &mut comp_enemy);
-    let winner = best_region(&comp_enemy, &comp_cells, ncomp);
-    claim_rest(&mut cells, &labels, winner);
-    let herd = retain(&labels, enemies, count, winner);
-    let left = herd.enemies;
-    Cut {
-        grid: cells,
-        enemies: left,
-        count: herd.count,
-    }
+    let best = choose(grid, &mut seen, &mut queue, enemies, count, limit);
+    mark(&mut seen, &queue, best.from, best.to);
+    claim_rest(grid, &seen);
+    let keep = keep_of(best.from, best.to);
+    retain(&seen, enemies, count, keep)
 }

@@ -12,7 +12,7 @@ use Rattle.laws.proofs.Choice.{and-left, and-right, and-both}
 use Rattle.laws.proofs.Lists.{all-weaken}
 use Rattle.ground.specs.Cells.{CN, CB-BLACK, CB-FILLED, MAX-ENEMIES, cellAt, blackAt, cellOf}
 use Rattle.ground.specs.declared.Mover.{Mover}
-use Rattle.regions.specs.Regions.{MAX-COMP}
+use Rattle.closing.specs.Counted.{MAX-COMP}
 use Rattle.closing.specs.Closing.{closeCut}
 use Rattle.closing.specs.declared.Cut.{Cut}
 use Rattle.closing.proofs.Sums.{claimed-after, black-after, length-after, all-after, line-after, no-line-after, claimed-stays, creatures-after, spare-after, few-after, slots-after, all-left, left-on-black}

@@ -5,7 +5,7 @@ use Prim.Native.Nat.{ℕ, _+_}
 use lib.Dec.{ltb}
 use Rattle.found.specs.First.{nobody}
 use Rattle.ground.specs.Cells.{CN, blackAt}
-use Rattle.regions.specs.Regions.{MAX-COMP}
+use Rattle.closing.specs.Counted.{MAX-COMP}
 use Rattle.closing.specs.Account.{takenOf, goneOf}
 use Rattle.cutter_state.specs.declared.Cutter.{Cutter}
 use Rattle.cutter_state.specs.State.{creatures}

@@ -11,7 +11,7 @@ use Rattle.cutter_state.specs.declared.Cutter.{Cutter}
 use Rattle.cutter_state.specs.Change.{withGrid, withTrailing, killed}
 use Rattle.cutter_rules.specs.Step.{playerCell, entered, laid, stopped, stepped}
 use Rattle.cutter_moves.specs.declared.player.Step.{Step}
-use Rattle.cutter_moves.specs.Steps.{laying, closedAt, applied, does, Plays}
+use Rattle.cutter_moves.specs.Steps.{staying, laying, closedAt, applied, does, Plays, SteppedOn}
 
 -- the same with one thing changed
 abbrev pub dying : Step → Step
@@ -38,12 +38,24 @@ pub second-chosen : {A : Type 0} (b : Bool) (u v : A) → b ≡ false → v ≡ 
 second-chosen true u v e = absurd (false≢true (sym e))
 second-chosen false u v e = refl
 
--- a step that closes nothing, with the ground that it left
-pub left-ground : (c : Cutter) (r : Step) (h : List ℕ) → does c r ≡ stepped c → r .closes ≡ false → h ≡ cond (r .closes) (c .grid) (set (c .grid) (r .at) (r .code)) → withGrid (applied c r) h ≡ stepped c
-left-ground c r h p f q =
-    ap (withGrid (applied c r)) (q ∙ sym (second-chosen (r .closes) (c .grid) (set (c .grid) (r .at) (r .code)) f))
-    ∙ second-chosen (r .closes) (closedAt c (r .at)) (applied c r) f
-    ∙ p
+-- what a step on the state's own ground, which is h then, makes of the state
+module _ (c : Cutter) (s r : Step) (h : List ℕ) (d : SteppedOn (c .grid) (c .enemies) (c .count) s r h) (e : s ≡ staying c) where
+  made : does c r ≡ stepped c
+  made = d .makes c (record { same = refl; stays = e }) refl refl
+
+  -- a cut is yet to be closed
+  pub same-ground : r .closes ≡ true → h ≡ c .grid
+  same-ground t = d .ground ∙ sym (first-chosen (r .closes) (c .grid) (set (c .grid) (r .at) (r .code)) t)
+
+  pub shut-made : r .closes ≡ true → closedAt c (r .at) ≡ stepped c
+  shut-made t = first-chosen (r .closes) (closedAt c (r .at)) (applied c r) t ∙ made
+
+  -- the step closes nothing
+  pub left-made : r .closes ≡ false → withGrid (applied c r) h ≡ stepped c
+  left-made f =
+      ap (withGrid (applied c r)) (d .ground ∙ sym (second-chosen (r .closes) (c .grid) (set (c .grid) (r .at) (r .code)) f))
+      ∙ second-chosen (r .closes) (closedAt c (r .at)) (applied c r) f
+      ∙ made
 
 module _ {c : Cutter} {g : List ℕ} {s : Step} (p : Plays c g s) where
   -- the player's own cell keeps its code

@@ -1,22 +1,31 @@
 -- The player's step: directions, and what a closing asks. Assumes nothing.
-use mathlib.Core.Bool.{true}
+use mathlib.Core.Bool.{true, false}
 use mathlib.Core.List.{List}
-use mathlib.Core.Path.{_≡_, refl}
-use Prim.Native.Nat.{ℕ, zero, suc}
+use mathlib.Core.Path.{_≡_, refl, ap, _∙_}
+use Prim.Native.Nat.{ℕ, zero, suc, _/_, _%_}
 use native.Mathlib.Omega.{arith}
 use lib.IntN.{pos, negsuc}
 use lib.ListN.{length}
 use borrow.Author.Tests.{lt-ltb, eqb-true}
 use Rattle.laws.proofs.Lists.{all-weaken}
 use Rattle.joined.proofs.Joined.{black-in}
-use Rattle.ground.specs.Cells.{CN, CB-BLACK, cellAt, cellOf}
+use Rattle.ground.specs.Cells.{CW, CN, CB-BLACK, cellAt, cellOf}
 use Rattle.ground.specs.declared.Mover.{Mover}
+use Rattle.closing.specs.Counted.{MAX-COMP}
+use Rattle.closing.specs.Closing.{closeCut}
+use Rattle.closing.specs.declared.Cut.{Cut}
+use Rattle.closing.proofs.Sums.{length-after}
 use Rattle.capture.specs.Steps.{inside, Closable}
+use Rattle.border.specs.Border.{toBorder}
 use Rattle.cutter_state.specs.declared.Cutter.{Cutter}
-use Rattle.cutter_state.specs.State.{creatures}
-use Rattle.cutter_state.specs.WellFormed.{moverOk, WellFormed}
-use Rattle.cutter_rules.specs.Step.{unitX, unitY}
+use Rattle.cutter_state.specs.State.{place, creatures}
+use Rattle.cutter_state.specs.Change.{withGrid, withCreatures, withTrailing}
+use Rattle.cutter_state.specs.WellFormed.{moverOk, footing, WellFormed}
+use Rattle.cutter_state.proofs.Ring.{holds-inside}
+use Rattle.cutter_rules.specs.Step.{unitX, unitY, entered, cutClosed, atBorder}
 use Rattle.cutter_rules.proofs.Apart.{mover-black}
+use Rattle.cutter_moves.specs.Moves.{OnGrid}
+use Rattle.cutter_moves.specs.Steps.{closedAt}
 
 -- past 2 the unit step is left
 pub left-else : (d : ℕ) → (d ≡ 0 → ⊥) → (d ≡ 1 → ⊥) → (d ≡ 2 → ⊥) → (unitX d ≡ negsuc 0) × (unitY d ≡ pos 0)
@@ -37,3 +46,23 @@ closable c w =
       few = w .few;
       onGrid = all-weaken (moverOk (c .grid)) inside (λ e m. inside-grid (c .grid) e (w .cells) m) (creatures c) (w .each);
     }
+
+-- the player of a well-formed state is on the grid
+pub on-grid : (c : Cutter) → WellFormed c → OnGrid (c .px) (c .py)
+on-grid c w = let h = holds-inside (c .grid) (footing (c .trailing)) (c .px) (c .py) (w .player) in record { across = h .0; down = h .1 }
+
+-- the ground after a closing
+pub closed-cells : (c : Cutter) → WellFormed c → (cut : Cut) → cut ≡ closeCut MAX-COMP (c .grid) (creatures c) → length (cut .grid) ≡ CN
+closed-cells c w cut e = ap (λ (k : Cut). length (k .grid)) e ∙ length-after MAX-COMP (c .grid) (creatures c) (w .cells)
+
+-- a state whose cut is closed
+abbrev shut : Cutter → Cut → Cutter
+shut c cut = withTrailing (withCreatures (withGrid c (cut .grid)) (cut .enemies) (cut .count)) false
+
+-- a step that closes at the cell t: the cut closed, and where the walk from t ends
+pub closed-at : (c : Cutter) (t : ℕ) (cut : Cut) (end : ℕ) → cut ≡ closeCut MAX-COMP (c .grid) (creatures c) → end ≡ toBorder (cut .grid) t .at → entered (shut c cut) end ≡ closedAt c t
+unfolding cutClosed atBorder
+closed-at c t cut end e f =
+    let here : t ≡ place (t % CW) (t / CW) = omega arith in
+    ap (entered (shut c cut)) (f ∙ ap (λ (n : ℕ). toBorder (cut .grid) n .at) here)
+    ∙ ap (λ (k : Cut). entered (shut c k) (toBorder (k .grid) (place (t % CW) (t / CW)) .at)) e

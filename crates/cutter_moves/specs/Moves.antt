@@ -8,9 +8,8 @@ use lib.ListN.{length, take, drop}
 use Rattle.laws.specs.Lists.{all, any}
 use Rattle.ground.specs.Cells.{CW, CH, CN, MAX-ENEMIES, cellAt, cellOf}
 use Rattle.ground.specs.declared.Mover.{Mover}
-use Rattle.cutter_state.specs.declared.Cutter.{Cutter}
 use Rattle.cutter_state.specs.State.{Inside}
-use Rattle.cutter_state.specs.WellFormed.{rowsFilled, columnsFilled, isUnit, moverOk, WellFormed}
+use Rattle.cutter_state.specs.WellFormed.{rowsFilled, columnsFilled, isUnit, moverOk}
 use Rattle.cutter_rules.specs.Ahead.{sideOf, verticalOf, diagonalOf}
 use Rattle.cutter_rules.specs.Tick.{lineAhead, bounced, ticked}
 use Rattle.cutter_moves.specs.declared.enemies.Moved.{Moved}
@@ -21,11 +20,6 @@ use Rattle.cutter_moves.specs.declared.enemies.View.{View}
 pub record OnGrid (x y : ℕ) : Type 0 where
   pub across : x < CW
   pub down : y < CH
-
--- a well-formed state, and a cell of the grid to step to
-pub record Stepping (c : Cutter) (t : ℕ) : Type 0 where
-  pub well : WellFormed c
-  pub inside : t < CN
 
 -- a cell with a neighbour on either side, and a velocity that points to one
 pub record Across (t : ℕ) (v : ℤ) : Type 0 where

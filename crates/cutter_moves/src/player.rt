@@ -5,15 +5,15 @@ ghost use mathlib.Core.Path.{_≡_};
 ghost use Prim.Native.Nat.{_<_};
 ghost use lib.ListN.{length};
 ghost use Rattle.ground.specs.Cells.{CN};
-ghost use Rattle.capture.specs.Steps.{Closable};
 ghost use Rattle.cutter_state.specs.Change.{withDirection};
 ghost use Rattle.cutter_state.specs.WellFormed.{isZero, WellFormed};
-ghost use Rattle.cutter_rules.specs.Step.{directed, entered, cutClosed, atBorder, trailingStep, walkingStep, stepped, lineErased, respawned};
-ghost use Rattle.cutter_moves.specs.Moves.{OnGrid, Stepping};
-ghost use Rattle.cutter_moves.specs.Steps.{playing, closedAt, laying, Lends, Walks, Makes, Decides, Stepped, SteppedOn};
+ghost use Rattle.cutter_rules.specs.Step.{directed, entered, atBorder, trailingStep, walkingStep, stepped, lineErased, respawned};
+ghost use Rattle.cutter_moves.specs.Moves.{OnGrid};
+ghost use Rattle.cutter_moves.specs.Steps.{playing, laying, Lends, Walks, Makes, Decides, Stepped, SteppedOn};
 use crate::ahead::diagonal_of;
 use crate::enemies::enemy_at;
 use border::move_to_border;
+use capture::MAX_COMP;
 use capture::close_cut;
 use cutter_level::at_start;
 use cutter_rules::DOWN;
@@ -81,24 +81,6 @@ fn enter(c: Cutter, to: usize) -> Cutter
     out
 }
 
-// Close a finished line: it becomes claimed, then every side of the black but one is captured.
-fn close(c: Cutter) -> Cutter
-    requires { ⌜ Closable (c .enemies) (c .count) ⌝ }
-    ensures { λ r. ⌜ r ≡ cutClosed c ⌝ }
-{
-    let grid = c.grid;
-    let enemies = c.enemies;
-    let cut = close_cut(grid, enemies, c.count);
-    let cells = cut.grid;
-    let left = cut.enemies;
-    let mut out = c;
-    out.grid = cells;
-    out.enemies = left;
-    out.count = cut.count;
-    out.trailing = false;
-    out
-}
-
 // Move the player to the nearest cell beside black, if it is not on one: a cut can capture the side it was standing against, and the
 // start position can end up inside claimed ground.
 fn to_border(c: Cutter) -> Cutter
@@ -108,16 +90,6 @@ fn to_border(c: Cutter) -> Cutter
     let at = c.py * CW + c.px;
     let w = move_to_border(&c.grid, at);
     enter(c, w.at)
-}
-
-// Claimed ground at the end of a line: entered, the cut closed, and on to the border.
-fn close_at(c: Cutter, to: usize) -> Cutter
-    requires { ⌜ Stepping c to ⌝ }
-    ensures { λ r. ⌜ r ≡ closedAt c to ⌝ }
-{
-    let inside = enter(c, to);
-    let cut = close(inside);
-    to_border(cut)
 }
 
 // The player enters the cell at and leaves line there.
@@ -238,7 +210,7 @@ pub fn step_on(
     to
 }
 
-// One movement step. The state is copied once, and every step but a closing changes it by the same stores.
+// One movement step. The state is copied once, and changed where it lies.
 pub fn step_player(c: Cutter) -> Cutter
     requires { ⌜ WellFormed c ⌝ }
     ensures { λ r. ⌜ r ≡ stepped c ⌝ }
@@ -257,7 +229,15 @@ pub fn step_player(c: Cutter) -> Cutter
         c.dead,
     );
     if to.closes {
-        out = close_at(c, to.at);
+        // Close a finished line: it becomes claimed, then every side of the black but one is captured. On to the border from there.
+        let herd = close_cut(&mut out.grid, enemies, c.count, MAX_COMP as u16);
+        let end = move_to_border(&out.grid, to.at);
+        let left = herd.enemies;
+        out.enemies = left;
+        out.count = herd.count;
+        out.trailing = false;
+        out.px = end.at % CW;
+        out.py = end.at / CW;
         return out;
     }
     out.px = to.px;

@@ -12,7 +12,7 @@ use Rattle.cutter_state.specs.declared.Cutter.{Cutter}
 use Rattle.cutter_state.specs.State.{place, creatures}
 use Rattle.cutter_state.specs.WellFormed.{isZero}
 use Rattle.cutter_state.specs.Change.{withGrid, withPlayer, withDirection, withTrailing, withCreatures, killed}
-use Rattle.regions.specs.Regions.{MAX-COMP}
+use Rattle.closing.specs.Counted.{MAX-COMP}
 use Rattle.closing.specs.Closing.{closeCut}
 use Rattle.border.specs.Border.{toBorder}
 use Rattle.cutter_rules.specs.Ahead.{diagonalOf}

@@ -11,7 +11,7 @@ use Rattle.ground.specs.Cells.{CW, CH, CN, CB-BLACK, CB-FILLED, CB-TRAIL}
 use Rattle.ground.specs.declared.Mover.{Mover}
 use Rattle.joined.specs.Joined.{Right}
 use Rattle.joined.proofs.Certificate.{every4, cellOk, rightTest, right-by-test}
-use Rattle.regions.specs.Regions.{MAX-COMP, rootsFrom, counted, cellsIn}
+use Rattle.closing.specs.Counted.{MAX-COMP, rootsFrom, counted, cellsIn}
 use Rattle.closing.specs.declared.Cut.{Cut}
 use Rattle.closing.specs.Closing.{claimLine, slots, best, keptOf, claim, closeCut}
 use Rattle.closing.proofs.Labels.{closing-by}

@@ -3,6 +3,7 @@ ghost use mathlib.Core.Path.{_≡_};
 ghost use lib.ListN.{length};
 ghost use Rattle.laws.specs.Lists.{tally};
 ghost use Rattle.ground.specs.Cells.{CN, cellAt, leftOf, rightOf, upOf, downOf, blackAt, onBorder, blackCount, cellOf, standsAt};
+ghost use Rattle.ground.specs.Visit.{Room, Visited, Around};
 
 pub const CW: usize = 64;
 
@@ -15,6 +16,9 @@ pub const CB_BLACK: u8 = 0;
 pub const CB_FILLED: u8 = 1;
 
 pub const CB_TRAIL: u8 = 2;
+
+// What marks a cell that a search has reached.
+pub const SEEN: u8 = 1;
 
 // At most so many creatures.
 pub const MAX_ENEMIES: usize = 16;
@@ -121,4 +125,50 @@ pub fn black_count(grid: &[u8; CN]) -> u16
     ensures { λ r. ⌜ r ≡ blackCount (now (grid .entry)) ⌝ }
 {
     count_of(grid, CB_BLACK)
+}
+
+// Marks the cell at and puts it on the queue, where it holds the code kind and has no mark; the queue's new end.
+fn visit(
+    grid: &[u8; CN],
+    seen: &mut [u8; CN],
+    queue: &mut [u16; CN],
+    tail: usize,
+    at: usize,
+    kind: u8,
+) -> usize
+    requires { ⌜ Room (now grid) (now seen) (now queue) tail kind ⌝ }
+    ensures { λ r. ⌜ Visited (now (grid .entry)) (now (seen .entry)) (now (queue .entry)) tail at kind (now (seen .exit)) (now (queue .exit)) r ⌝ }
+{
+    if at < CN {
+        if grid[at] == kind {
+            if seen[at] == 0 {
+                seen[at] = SEEN;
+                queue[tail] = at as u16;
+                return tail + 1;
+            }
+        }
+    }
+    tail
+}
+
+// Visits the four neighbours of a cell, left, right, up, down; the queue's new end.
+pub fn around(
+    grid: &[u8; CN],
+    seen: &mut [u8; CN],
+    queue: &mut [u16; CN],
+    tail: usize,
+    at: usize,
+    kind: u8,
+) -> usize
+    requires { ⌜ Room (now grid) (now seen) (now queue) tail kind ⌝ }
+    ensures { λ r. ⌜ Around (now (grid .entry)) (now (seen .entry)) (now (queue .entry)) tail at kind (now (seen .exit)) (now (queue .exit)) r ⌝ }
+{
+    let left = left_of(at);
+    let right = right_of(at);
+    let up = up_of(at);
+    let down = down_of(at);
+    let t1 = visit(grid, seen, queue, tail, left, kind);
+    let t2 = visit(grid, seen, queue, t1, right, kind);
+    let t3 = visit(grid, seen, queue, t2, up, kind);
+    visit(grid, seen, queue, t3, down, kind)
 }
