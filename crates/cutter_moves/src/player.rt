@@ -7,8 +7,7 @@ ghost use lib.ListN.{length};
 ghost use Rattle.ground.specs.Cells.{CN};
 ghost use Rattle.cutter_state.specs.Change.{withDirection};
 ghost use Rattle.cutter_state.specs.WellFormed.{isZero, WellFormed};
-ghost use Rattle.cutter_rules.specs.Step.{directed, entered, atBorder, trailingStep, walkingStep, stepped, lineErased, respawned};
-ghost use Rattle.cutter_moves.specs.Moves.{OnGrid};
+ghost use Rattle.cutter_rules.specs.Step.{directed, trailingStep, walkingStep, stepped, lineErased, respawned};
 ghost use Rattle.cutter_moves.specs.Steps.{playing, laying, Lends, Walks, Makes, Decides, Stepped, SteppedOn};
 use crate::ahead::diagonal_of;
 use crate::enemies::enemy_at;
@@ -70,26 +69,6 @@ pub struct Step {
     pub closes: bool,
     pub at: usize,
     pub code: u8,
-}
-
-fn enter(c: Cutter, to: usize) -> Cutter
-    ensures { λ r. ⌜ r ≡ entered c to ⌝ }
-{
-    let mut out = c;
-    out.px = to % CW;
-    out.py = to / CW;
-    out
-}
-
-// Move the player to the nearest cell beside black, if it is not on one: a cut can capture the side it was standing against, and the
-// start position can end up inside claimed ground.
-fn to_border(c: Cutter) -> Cutter
-    requires { ⌜ OnGrid (c .px) (c .py) ⌝ }
-    ensures { λ r. ⌜ r ≡ atBorder c ⌝ }
-{
-    let at = c.py * CW + c.px;
-    let w = move_to_border(&c.grid, at);
-    enter(c, w.at)
 }
 
 // The player enters the cell at and leaves line there.
@@ -229,7 +208,8 @@ pub fn step_player(c: Cutter) -> Cutter
         c.dead,
     );
     if to.closes {
-        // Close a finished line: it becomes claimed, then every side of the black but one is captured. On to the border from there.
+        // Close a finished line: it becomes claimed, then every side of the black but one is captured. Then to the nearest cell beside
+        // black, since the cut can capture the side that the player stands against.
         let herd = close_cut(&mut out.grid, enemies, c.count, MAX_COMP as u16);
         let end = move_to_border(&out.grid, to.at);
         let left = herd.enemies;
@@ -266,11 +246,15 @@ fn erase_line(grid: &mut [u8; CN])
     }
 }
 
-// The line is black again, and the player back at the start.
+// The line is black again, and the player back at the start, or on the nearest cell beside black: the start can end up inside claimed ground.
 pub fn respawn(c: Cutter) -> Cutter
     ensures { λ r. ⌜ r ≡ respawned c ⌝ }
 {
     let mut out = at_start(c);
     erase_line(&mut out.grid);
-    to_border(out)
+    let at = out.py * CW + out.px;
+    let end = move_to_border(&out.grid, at);
+    out.px = end.at % CW;
+    out.py = end.at / CW;
+    out
 }

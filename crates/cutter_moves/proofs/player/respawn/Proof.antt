@@ -1,7 +1,11 @@
 use lib.Dec.{lit<}
+use lib.ListN.{length, length-map}
+use mathlib.Core.Path.{_≡_, ap, _∙_}
 use borrow.Author.Needs.{needs}
+use Rattle.ground.specs.Cells.{CN}
+use Rattle.cutter_state.specs.declared.Cutter.{Cutter}
 use Rattle.cutter_rules.specs.Level.{atStart}
-use Rattle.cutter_rules.specs.Step.{respawned}
+use Rattle.cutter_rules.specs.Step.{lineErased, atBorder, respawned}
 use Rattle.cutter_moves.proofs.player.respawn.Statement.{statement}
 use Rattle.cutter_moves.proofs.player.respawn.Tie as tie
 
@@ -11,14 +15,32 @@ at-start-requires c κs = search needs
 erase-line-requires : tie.Need-erase-line-requires
 erase-line-requires c κs = search needs
 
-to-border-requires : tie.Need-to-border-requires
+mul-at : tie.Need-mul-at
 unfolding atStart
-to-border-requires c κs = rw (c .before .before .at-start .ensures) (record { across = lit< tt; down = lit< tt })
+mul-at c = rw (c .before .before .at-start .ensures) (search needs)
+
+add-at : tie.Need-add-at
+unfolding atStart
+add-at c = rw (c .before .before .at-start .ensures) (search needs)
+
+move-to-border-requires : tie.Need-move-to-border-requires
+unfolding atStart
+move-to-border-requires c κs =
+    let e = c .before .before in
+    let a = e .before .before in
+    let l : length (a .before .args .c .grid) ≡ CN = search needs in
+    record {
+      cells = ap length (e .erase-line .ensures) ∙ length-map (a .at-start .result .grid) lineErased ∙ ap (λ (k : Cutter). length (k .grid)) (a .at-start .ensures) ∙ l;
+      inside = rw (a .at-start .ensures) (lit< tt);
+    }
 
 returns : tie.Need-returns
-unfolding atStart respawned
-returns c = simp (c .before .erase-line .ensures, c .before .before .before .at-start .ensures) at (c .to-border .ensures)
+unfolding atStart respawned atBorder
+returns c =
+    let w = c .before .before in
+    let e = w .before .before .before in
+    simp (w .move-to-border .ensures, e .erase-line .ensures, e .before .before .at-start .ensures)
 
 pub respawn-spec : {M : Type 1} → statement M
 respawn-spec =
-    tie.close (tie.spec at-start-requires erase-line-requires to-border-requires returns)
+    tie.close (tie.spec at-start-requires erase-line-requires mul-at add-at move-to-border-requires returns)
