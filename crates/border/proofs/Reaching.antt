@@ -15,7 +15,8 @@ use Rattle.laws.proofs.Lists.{getD-default, any-append}
 use Rattle.ground.specs.Cells.{CN, CB-FILLED, cellAt, rightOf, upOf, downOf}
 use Rattle.ground.specs.Visit.{SEEN, Holds, Room, Visited, Around}
 use Rattle.ground.proofs.Visits.{holds-in, room-kept}
-use Rattle.border.specs.Border.{claimed, among, reach, reachAround}
+use Rattle.border.specs.Walks.{claimed}
+use Rattle.border.specs.Border.{among, reach, reachAround}
 
 -- what a claimed cell is
 module _ (g : List ℕ) (c : ℕ) where
@@ -42,15 +43,15 @@ module _ (g : List ℕ) (c : ℕ) where
 
 -- a cell is reached, or it is not claimed, or it was reached before
 module _ (g cells : List ℕ) (c : ℕ) where
-  reach-new : claimed g c ≡ true → among c cells ≡ false → reach g cells c ≡ cells ++ c ∷ []
+  pub reach-new : claimed g c ≡ true → among c cells ≡ false → reach g cells c ≡ cells ++ c ∷ []
   unfolding reach
   reach-new e f = simp (e, f)
 
-  reach-off : claimed g c ≡ false → reach g cells c ≡ cells
+  pub reach-off : claimed g c ≡ false → reach g cells c ≡ cells
   unfolding reach
   reach-off e = simp e
 
-  reach-old : among c cells ≡ true → reach g cells c ≡ cells
+  pub reach-old : among c cells ≡ true → reach g cells c ≡ cells
   unfolding reach
   reach-old e = simp (e, and-false)
 
@@ -61,7 +62,7 @@ marked seen c = not (eqb (getD seen c 0) 0)
 pub marked-none : (seen : List ℕ) (c : ℕ) → getD seen c 0 ≡ 0 → marked seen c ≡ false
 marked-none seen c e = ap (λ (n : ℕ). not (eqb n 0)) e
 
-none-marked : (seen : List ℕ) (c : ℕ) → marked seen c ≡ false → getD seen c 0 ≡ 0
+pub none-marked : (seen : List ℕ) (c : ℕ) → marked seen c ≡ false → getD seen c 0 ≡ 0
 none-marked seen c e = eqb-true (getD seen c 0) 0 (not-false (eqb (getD seen c 0) 0) e)
 
 -- the first t of the queue are the cells reached

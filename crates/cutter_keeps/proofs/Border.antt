@@ -3,7 +3,8 @@ use mathlib.Core.Bool.{Bool, true, false}
 use mathlib.Core.Path.{_≡_, subst}
 use native.Mathlib.Omega.{arith}
 use Rattle.ground.specs.Cells.{CB-FILLED}
-use Rattle.border.specs.Border.{claimed, toBorder}
+use Rattle.border.specs.Walks.{claimed}
+use Rattle.border.specs.Border.{toBorder}
 use Rattle.border.proofs.Reaching.{claimed-in, claimed-code, code-claimed}
 use Rattle.border.proofs.Claimed.{border-claimed}
 use Rattle.cutter_state.specs.declared.Cutter.{Cutter}
@@ -15,13 +16,18 @@ use Rattle.cutter_keeps.specs.Kept.{Kept}
 use Rattle.cutter_keeps.proofs.Changes.{kept-self, kept-player}
 use Rattle.cutter_keeps.proofs.Creatures.{cell-holds}
 
+-- a player that isn't trailing stands on a claimed cell
+pub standing : (s : Cutter) → WellFormed s → s .trailing ≡ false → claimed (s .grid) (playerCell s) ≡ true
+standing s w e =
+    let g = s .grid in
+    let p : holdsAt g CB-FILLED (s .px) (s .py) ≡ true = subst (λ (b : Bool). holdsAt g (footing b) (s .px) (s .py) ≡ true) e (w .player) in
+    let i = holds-inside g CB-FILLED (s .px) (s .py) p in
+    code-claimed g (playerCell s) (omega arith) (holds-code g CB-FILLED (s .px) (s .py) p)
+
 pub border-kept : (s : Cutter) → WellFormed s → s .trailing ≡ false → Kept s (atBorder s)
 unfolding atBorder
 border-kept s w e =
     let g = s .grid in
-    let p : holdsAt g CB-FILLED (s .px) (s .py) ≡ true = subst (λ (b : Bool). holdsAt g (footing b) (s .px) (s .py) ≡ true) e (w .player) in
-    let i = holds-inside g CB-FILLED (s .px) (s .py) p in
-    let start = code-claimed g (playerCell s) (omega arith) (holds-code g CB-FILLED (s .px) (s .py) p) in
     let to = toBorder g (playerCell s) .at in
-    let there : claimed g to ≡ true = border-claimed g (playerCell s) start in
+    let there : claimed g to ≡ true = border-claimed g (playerCell s) (standing s w e) in
     kept-player (kept-self w) _ _ (rw e (cell-holds g CB-FILLED to (claimed-in g to there) (claimed-code g to there)))

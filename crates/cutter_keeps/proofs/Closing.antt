@@ -56,7 +56,7 @@ module _ {c : Cutter} (w : WellFormed c) (t : ℕ) (h : t < CN) (f : cellAt (c .
   filled : (i : ℕ) → cellAt g i ≡ CB-FILLED → cellAt g′ i ≡ CB-FILLED
   filled = claimed-stays MAX-COMP g es (w .cells)
 
-  cut-closed : Closed c (cutClosed (entered c t)) (takenBy c) (goneBy c)
+  pub cut-closed : Closed c (cutClosed (entered c t)) (takenBy c) (goneBy c)
   unfolding cutClosed
   cut-closed =
       record {

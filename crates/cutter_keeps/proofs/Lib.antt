@@ -10,3 +10,4 @@ pub mod Respawn
 pub mod Closing
 pub mod Steps
 pub mod Accounts
+pub mod Nearest

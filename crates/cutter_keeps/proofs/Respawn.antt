@@ -66,10 +66,10 @@ module _ (g : List ℕ) where
 
 -- ---- the state
 
-abbrev atStartErased : Cutter → Cutter
+abbrev pub atStartErased : Cutter → Cutter
 atStartErased c = withGrid (atStart c) (map lineErased (c .grid))
 
-erased-start : (c : Cutter) → WellFormed c → Erased c (atStartErased c)
+pub erased-start : (c : Cutter) → WellFormed c → Erased c (atStartErased c)
 unfolding atStart
 erased-start c w =
     let g = c .grid in

@@ -46,7 +46,7 @@ pub inland-stops : (c : Cutter) (t : ℕ) → claimedAt (c .grid) t ≡ true →
 unfolding walkingStep
 inland-stops c t k b = rw (k, b)
 
-place-cell : (t : ℕ) → place (t % CW) (t / CW) ≡ t
+pub place-cell : (t : ℕ) → place (t % CW) (t / CW) ≡ t
 place-cell t = omega arith
 
 -- a step that closes leaves the player at the border of the ground that is left, by the walk from the cell that it entered

@@ -1,0 +1,65 @@
+-- The walk as step and respawn make it. Assumes nothing.
+use mathlib.Core.Bool.{Bool, true, false, not, _&&_}
+use mathlib.Core.Path.{_≡_, refl, sym, subst}
+use Prim.Native.Nat.{ℕ, _/_, _%_}
+use native.Mathlib.Omega.{arith}
+use borrow.Author.Tests.{eqb-true, ltb-true}
+use lib.Dec.{ltb}
+use Rattle.laws.proofs.Choice.{and-left, and-right, and-three}
+use Rattle.found.specs.First.{nobody}
+use Rattle.ground.specs.Cells.{CW, CN, CB-FILLED, cellAt}
+use Rattle.border.specs.Nearest.{Nearest}
+use Rattle.border.specs.Border.{toBorder}
+use Rattle.border.proofs.Reaching.{claimed-in}
+use Rattle.border.proofs.Nearest.{border-nearest}
+use Rattle.border.proofs.Spellings.{nearest-unique, nearest-already, nearest-unreached}
+use Rattle.cutter_state.specs.declared.Cutter.{Cutter}
+use Rattle.cutter_state.specs.State.{place, creatures}
+use Rattle.cutter_state.specs.WellFormed.{WellFormed}
+use Rattle.cutter_rules.specs.Level.{atStart}
+use Rattle.cutter_rules.specs.Tick.{creatureAt}
+use Rattle.cutter_rules.specs.Step.{noDirection, playerCell, target, claimedAt, entered, cutClosed, atBorder, stepped, respawned}
+use Rattle.cutter_rules.proofs.Step.{place-cell}
+use Rattle.cutter_keeps.specs.Kept.{lineIn}
+use Rattle.cutter_keeps.specs.Steps.{advances, closes}
+use Rattle.cutter_keeps.specs.Nearest.{Reappears, NearestKept}
+use Rattle.cutter_keeps.proofs.Border.{standing}
+use Rattle.cutter_keeps.proofs.Closing.{cut-closed}
+use Rattle.cutter_keeps.proofs.Respawn.{atStartErased, erased-start}
+use Rattle.cutter_keeps.proofs.Steps.{closes-step}
+
+-- wherever the move to the border is made
+at-border : (s : Cutter) → WellFormed s → s .trailing ≡ false → lineIn s ≡ 0 → Reappears (playerCell s) (atBorder s)
+unfolding atBorder
+at-border s w e n =
+    let g = s .grid in
+    let a = playerCell s in
+    let start = standing s w e in
+    let b : Nearest g a (playerCell (atBorder s)) = subst (Nearest g a) (sym (place-cell (toBorder g a .at))) (border-nearest g a (claimed-in g a start)) in
+    record {
+      start = start;
+      clear = n;
+      nearest = b;
+      only = λ c m. nearest-unique m b;
+      already = λ h. nearest-already h b;
+      unreached = λ u. nearest-unreached u b;
+    }
+
+closing-nearest : (c : Cutter) → WellFormed c → closes c ≡ true → Reappears (target c) (stepped c)
+unfolding closes advances cutClosed
+closing-nearest c w e =
+    let t = target c in
+    let to = claimedAt (c .grid) t in
+    let a = and-three (not (noDirection c)) (ltb t CN) (nobody (creatureAt (creatures c) t)) (and-left (advances c) (c .trailing && to) e) in
+    let k = eqb-true (cellAt (c .grid) t) CB-FILLED (and-right (c .trailing) to (and-right (advances c) (c .trailing && to) e)) in
+    let d = cut-closed w t (ltb-true t CN (a .1)) k in
+    let s = atBorder (cutClosed (entered c t)) in
+    let b : Reappears (place (t % CW) (t / CW)) s = at-border (cutClosed (entered c t)) (d .formed) refl (d .line) in
+    subst (Reappears t) (sym (closes-step c e)) (subst (λ (x : ℕ). Reappears x s) (place-cell t) b)
+
+respawn-nearest : (c : Cutter) → WellFormed c → Reappears (place (CW / 2) 0) (respawned c)
+unfolding respawned atStart
+respawn-nearest c w = let e = erased-start c w in at-border (atStartErased c) (e .formed) refl (e .line)
+
+pub nearest-kept : NearestKept
+nearest-kept = record { closing = closing-nearest; respawn = respawn-nearest }
