@@ -18,10 +18,10 @@ use Rattle.laws.proofs.Lists.{getD-replicate-same}
 use Rattle.ground.specs.Cells.{CN, leftOf, rightOf, upOf, downOf, onBorder}
 use Rattle.ground.specs.Visit.{SEEN}
 use Rattle.border.specs.declared.Walked.{Walked}
-use Rattle.border.specs.Walks.{claimed, Way, Left, Right, Up, Down, order, onward, Spelling, still, more, steps, Walk, here, step}
-use Rattle.border.specs.Nearest.{Beside, First, Unreached, Nearest, goes, stays}
+use Rattle.border.specs.Walks.{claimed, Beside, Way, Left, Right, Up, Down, order, onward, Spelling, still, more, steps, Walk, here, step}
+use Rattle.border.specs.Nearest.{Unreached, Nearest, goes, stays}
 use Rattle.border.specs.Border.{among, reach, reachAround, walk, toBorder}
-use Rattle.border.proofs.Spellings.{each, order-ends, value, shorter-less, earlier-less, nearest-unique, nearest-here}
+use Rattle.border.proofs.Spellings.{each, value, shorter-less, earlier-less, nearest-unique, nearest-here}
 use Rattle.border.proofs.Reaching.{claimed-in, marked, marked-none, none-marked, mark-more, reach-new, reach-old, reach-off}
 use Rattle.border.proofs.Walking as walking
 
@@ -83,6 +83,7 @@ module _ (g : List ℕ) (a : ℕ) where
     room : length cells + tally 0 seen ≤ CN
     marks : (c : ℕ) → among c cells ≡ marked seen c
 
+  -- a higher top
   raised : {cells vs seen : List ℕ} {top top′ : ℕ} → Reach cells vs seen top → top ≤ top′ → Reach cells vs seen top′
   raised r h =
       record {
@@ -328,3 +329,11 @@ module _ (g : List ℕ) (a : ℕ) where
       ⊎-elim (λ e. at-of (walking.stays g a e) (nearest-here e))
       (λ e. at-of (walking.walks g a e) (walk-nearest CN (a ∷ []) 0 (starting h) (omega arith)))
       (bool-cases (onBorder g a))
+
+-- The place to which the player at a goes. Its type is all there is to believe: from a cell of the grid there is just one (`nearest-unique`).
+pub nearest : (g : List ℕ) (a : ℕ) → (b : ℕ) × (a < CN → Nearest g a b)
+nearest g a = (toBorder g a .at, border-nearest g a)
+
+-- which is where the walk ends
+pub walk-at : (g : List ℕ) (a : ℕ) → a < CN → toBorder g a .at ≡ nearest g a .0
+walk-at g a h = nearest-unique (border-nearest g a h) (nearest g a .1 h)

@@ -6,8 +6,8 @@ use mathlib.Core.Path.{_≡_, refl, sym, ap, ap₂, subst, _∙_}
 use Prim.Native.Nat.{ℕ, zero, suc, _+_, _*_, _≤_, _<_}
 use native.Mathlib.Omega.{arith}
 use Rattle.laws.proofs.Choice.{below?}
-use Rattle.border.specs.Walks.{claimed, Way, Left, Right, Up, Down, order, onward, Spelling, still, more, steps, Earlier, differ, before, Walk, here, step}
-use Rattle.border.specs.Nearest.{Beside, First, Unreached, Nearest, goes, stays}
+use Rattle.border.specs.Walks.{claimed, Beside, Way, Left, Right, Up, Down, order, onward, Spelling, still, more, steps, Earlier, differ, before, Walk, here, step}
+use Rattle.border.specs.Nearest.{First, Unreached, Nearest, goes, stays}
 
 -- what holds of the four steps holds of each
 pub each : (P : Way → Type 0) → P Left → P Right → P Up → P Down → (w : Way) → P w

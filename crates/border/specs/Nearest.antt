@@ -1,14 +1,8 @@
 -- The nearest cell beside black: where the player goes to stand on the border.
-use mathlib.Core.Bool.{true}
 use mathlib.Core.List.{List}
 use mathlib.Core.Path.{_≡_}
 use Prim.Native.Nat.{ℕ, _≤_}
-use Rattle.ground.specs.Cells.{onBorder}
-use Rattle.border.specs.Walks.{Spelling, steps, Earlier, Walk}
-
--- black is one of the cell's eight neighbours
-abbrev pub Beside : List ℕ → ℕ → Type 0
-Beside g c = onBorder g c ≡ true
+use Rattle.border.specs.Walks.{Beside, Spelling, steps, Earlier, Walk}
 
 -- the walk p from a to b, beside black: of all walks to cells beside black none is shorter, and none is spelt earlier
 pub record First (g : List ℕ) (a : ℕ) (p : Spelling) (b : ℕ) : Type 0 where

@@ -1,10 +1,10 @@
--- Walks over claimed cells, and how they are spelt. No queue.
+-- Walks over claimed cells, how they are spelt, and the cells beside black. No queue.
 use mathlib.Core.Bool.{Bool, true, _&&_}
 use mathlib.Core.List.{List}
 use mathlib.Core.Path.{_≡_}
 use Prim.Native.Nat.{ℕ, suc, _<_}
 use lib.Dec.{eqb, ltb}
-use Rattle.ground.specs.Cells.{CN, CB-FILLED, cellAt, leftOf, rightOf, upOf, downOf}
+use Rattle.ground.specs.Cells.{CN, CB-FILLED, cellAt, leftOf, rightOf, upOf, downOf, onBorder}
 
 -- a claimed cell of the grid
 unfoldable pub claimed : List ℕ → ℕ → Bool
@@ -27,6 +27,10 @@ onward Left c = leftOf c
 onward Right c = rightOf c
 onward Up c = upOf c
 onward Down c = downOf c
+
+-- black is one of the cell's eight neighbours
+abbrev pub Beside : List ℕ → ℕ → Type 0
+Beside g c = onBorder g c ≡ true
 
 -- a walk's steps, from the first to the last
 pub data Spelling : Type 0 where

@@ -4,9 +4,9 @@ use mathlib.Core.Path.{_≡_, subst}
 use native.Mathlib.Omega.{arith}
 use Rattle.ground.specs.Cells.{CB-FILLED}
 use Rattle.border.specs.Walks.{claimed}
-use Rattle.border.specs.Border.{toBorder}
 use Rattle.border.proofs.Reaching.{claimed-in, claimed-code, code-claimed}
-use Rattle.border.proofs.Claimed.{border-claimed}
+use Rattle.border.proofs.Spellings.{nearest-claimed}
+use Rattle.border.proofs.Nearest.{nearest}
 use Rattle.cutter_state.specs.declared.Cutter.{Cutter}
 use Rattle.cutter_state.specs.State.{holdsAt}
 use Rattle.cutter_state.specs.WellFormed.{footing, WellFormed}
@@ -28,6 +28,7 @@ pub border-kept : (s : Cutter) → WellFormed s → s .trailing ≡ false → Ke
 unfolding atBorder
 border-kept s w e =
     let g = s .grid in
-    let to = toBorder g (playerCell s) .at in
-    let there : claimed g to ≡ true = border-claimed g (playerCell s) (standing s w e) in
+    let start = standing s w e in
+    let to = nearest g (playerCell s) .0 in
+    let there = nearest-claimed start (nearest g (playerCell s) .1 (claimed-in g (playerCell s) start)) in
     kept-player (kept-self w) _ _ (rw e (cell-holds g CB-FILLED to (claimed-in g to there) (claimed-code g to there)))

@@ -1,5 +1,5 @@
 -- The walk as step and respawn make it. Assumes nothing.
-use mathlib.Core.Bool.{Bool, true, false, not, _&&_}
+use mathlib.Core.Bool.{true, false, not, _&&_}
 use mathlib.Core.Path.{_≡_, refl, sym, subst}
 use Prim.Native.Nat.{ℕ, _/_, _%_}
 use native.Mathlib.Omega.{arith}
@@ -9,9 +9,8 @@ use Rattle.laws.proofs.Choice.{and-left, and-right, and-three}
 use Rattle.found.specs.First.{nobody}
 use Rattle.ground.specs.Cells.{CW, CN, CB-FILLED, cellAt}
 use Rattle.border.specs.Nearest.{Nearest}
-use Rattle.border.specs.Border.{toBorder}
 use Rattle.border.proofs.Reaching.{claimed-in}
-use Rattle.border.proofs.Nearest.{border-nearest}
+use Rattle.border.proofs.Nearest.{nearest}
 use Rattle.border.proofs.Spellings.{nearest-unique, nearest-already, nearest-unreached}
 use Rattle.cutter_state.specs.declared.Cutter.{Cutter}
 use Rattle.cutter_state.specs.State.{place, creatures}
@@ -35,7 +34,7 @@ at-border s w e n =
     let g = s .grid in
     let a = playerCell s in
     let start = standing s w e in
-    let b : Nearest g a (playerCell (atBorder s)) = subst (Nearest g a) (sym (place-cell (toBorder g a .at))) (border-nearest g a (claimed-in g a start)) in
+    let b : Nearest g a (playerCell (atBorder s)) = subst (Nearest g a) (sym (place-cell (nearest g a .0))) (nearest g a .1 (claimed-in g a start)) in
     record {
       start = start;
       clear = n;

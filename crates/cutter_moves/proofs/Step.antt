@@ -1,8 +1,8 @@
 -- The player's step: directions, and what a closing asks. Assumes nothing.
 use mathlib.Core.Bool.{true, false}
 use mathlib.Core.List.{List}
-use mathlib.Core.Path.{_≡_, refl, ap, _∙_}
-use Prim.Native.Nat.{ℕ, zero, suc, _/_, _%_}
+use mathlib.Core.Path.{_≡_, refl, sym, ap, _∙_}
+use Prim.Native.Nat.{ℕ, zero, suc, _<_, _/_, _%_}
 use native.Mathlib.Omega.{arith}
 use lib.IntN.{pos, negsuc}
 use lib.ListN.{length}
@@ -17,6 +17,7 @@ use Rattle.closing.specs.declared.Cut.{Cut}
 use Rattle.closing.proofs.Sums.{length-after}
 use Rattle.capture.specs.Steps.{inside, Closable}
 use Rattle.border.specs.Border.{toBorder}
+use Rattle.border.proofs.Nearest.{nearest, walk-at}
 use Rattle.cutter_state.specs.declared.Cutter.{Cutter}
 use Rattle.cutter_state.specs.State.{place, creatures}
 use Rattle.cutter_state.specs.Change.{withGrid, withCreatures, withTrailing}
@@ -24,6 +25,7 @@ use Rattle.cutter_state.specs.WellFormed.{moverOk, footing, WellFormed}
 use Rattle.cutter_state.proofs.Ring.{holds-inside}
 use Rattle.cutter_rules.specs.Step.{unitX, unitY, entered, cutClosed, atBorder}
 use Rattle.cutter_rules.proofs.Apart.{mover-black}
+use Rattle.cutter_rules.proofs.Step.{place-cell}
 use Rattle.cutter_moves.specs.Moves.{OnGrid}
 use Rattle.cutter_moves.specs.Steps.{closedAt}
 
@@ -60,9 +62,8 @@ abbrev shut : Cutter → Cut → Cutter
 shut c cut = withTrailing (withCreatures (withGrid c (cut .grid)) (cut .enemies) (cut .count)) false
 
 -- a step that closes at the cell t: the cut closed, and where the walk from t ends
-pub closed-at : (c : Cutter) (t : ℕ) (cut : Cut) (end : ℕ) → cut ≡ closeCut MAX-COMP (c .grid) (creatures c) → end ≡ toBorder (cut .grid) t .at → entered (shut c cut) end ≡ closedAt c t
+pub closed-at : (c : Cutter) (t : ℕ) → t < CN → (cut : Cut) (end : ℕ) → cut ≡ closeCut MAX-COMP (c .grid) (creatures c) → end ≡ toBorder (cut .grid) t .at → entered (shut c cut) end ≡ closedAt c t
 unfolding cutClosed atBorder
-closed-at c t cut end e f =
-    let here : t ≡ place (t % CW) (t / CW) = omega arith in
-    ap (entered (shut c cut)) (f ∙ ap (λ (n : ℕ). toBorder (cut .grid) n .at) here)
-    ∙ ap (λ (k : Cut). entered (shut c k) (toBorder (k .grid) (place (t % CW) (t / CW)) .at)) e
+closed-at c t h cut end e f =
+    ap (entered (shut c cut)) (f ∙ walk-at (cut .grid) t h ∙ ap (λ (n : ℕ). nearest (cut .grid) n .0) (sym (place-cell t)))
+    ∙ ap (λ (k : Cut). entered (shut c k) (nearest (k .grid) (place (t % CW) (t / CW)) .0)) e

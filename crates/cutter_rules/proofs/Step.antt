@@ -7,7 +7,7 @@ use borrow.Author.Tests.{le-leb, lt-leb}
 use Rattle.found.specs.declared.Found.{Found}
 use Rattle.found.specs.declared.Found.the-variants.{At, Nobody}
 use Rattle.ground.specs.Cells.{CW, CN, onBorder}
-use Rattle.border.specs.Border.{toBorder}
+use Rattle.border.proofs.Nearest.{nearest}
 use Rattle.cutter_state.specs.declared.Cutter.{Cutter}
 use Rattle.cutter_state.specs.State.{place, creatures}
 use Rattle.cutter_state.specs.Change.{killed}
@@ -49,7 +49,7 @@ inland-stops c t k b = rw (k, b)
 pub place-cell : (t : ℕ) → place (t % CW) (t / CW) ≡ t
 place-cell t = omega arith
 
--- a step that closes leaves the player at the border of the ground that is left, by the walk from the cell that it entered
-pub closed-at-border : (c : Cutter) (t : ℕ) → lineAt (c .grid) t ≡ false → claimedAt (c .grid) t ≡ true → playerCell (trailingStep c t) ≡ toBorder (trailingStep c t .grid) t .at
+-- a step that closes leaves the player at the border of the ground that is left, at the place nearest to the cell that it entered
+pub closed-at-border : (c : Cutter) (t : ℕ) → lineAt (c .grid) t ≡ false → claimedAt (c .grid) t ≡ true → playerCell (trailingStep c t) ≡ nearest (trailingStep c t .grid) t .0
 unfolding trailingStep atBorder cutClosed
 closed-at-border c t l k = rw (l, k, place-cell t) (place-cell _)

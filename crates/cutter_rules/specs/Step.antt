@@ -14,7 +14,7 @@ use Rattle.cutter_state.specs.WellFormed.{isZero}
 use Rattle.cutter_state.specs.Change.{withGrid, withPlayer, withDirection, withTrailing, withCreatures, killed}
 use Rattle.closing.specs.Counted.{MAX-COMP}
 use Rattle.closing.specs.Closing.{closeCut}
-use Rattle.border.specs.Border.{toBorder}
+use Rattle.border.proofs.Nearest.{nearest}
 use Rattle.cutter_rules.specs.Ahead.{diagonalOf}
 use Rattle.cutter_rules.specs.Level.{atStart}
 use Rattle.cutter_rules.specs.Tick.{creatureAt, lineAt}
@@ -84,9 +84,9 @@ cutClosed c =
     let cut = closeCut MAX-COMP (c .grid) (creatures c) in
     withTrailing (withCreatures (withGrid c (cut .grid)) (cut .enemies) (cut .count)) false
 
--- moves to the border
+-- moves to the border: to the nearest cell beside black
 unfoldable pub atBorder : Cutter → Cutter
-atBorder c = entered c (toBorder (c .grid) (playerCell c) .at)
+atBorder c = entered c (nearest (c .grid) (playerCell c) .0)
 
 -- trailing: line is dead, claimed enters, closes the cut and then moves to the border, black lays line
 unfoldable pub trailingStep : Cutter → ℕ → Cutter

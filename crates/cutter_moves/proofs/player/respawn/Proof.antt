@@ -1,11 +1,14 @@
 use lib.Dec.{lit<}
 use lib.ListN.{length, length-map}
+use mathlib.Core.List.{map}
 use mathlib.Core.Path.{_≡_, ap, _∙_}
 use borrow.Author.Needs.{needs}
 use Rattle.ground.specs.Cells.{CN}
+use Rattle.border.proofs.Nearest.{walk-at}
 use Rattle.cutter_state.specs.declared.Cutter.{Cutter}
+use Rattle.cutter_state.specs.Change.{withGrid}
 use Rattle.cutter_rules.specs.Level.{atStart}
-use Rattle.cutter_rules.specs.Step.{lineErased, atBorder, respawned}
+use Rattle.cutter_rules.specs.Step.{entered, lineErased, atBorder, respawned}
 use Rattle.cutter_moves.proofs.player.respawn.Statement.{statement}
 use Rattle.cutter_moves.proofs.player.respawn.Tie as tie
 
@@ -39,7 +42,9 @@ unfolding atStart respawned atBorder
 returns c =
     let w = c .before .before in
     let e = w .before .before .before in
+    let start = entered (withGrid (atStart (e .before .before .before .args .c)) (map lineErased (e .before .before .before .args .c .grid))) in
     simp (w .move-to-border .ensures, e .erase-line .ensures, e .before .before .at-start .ensures)
+    (ap start (walk-at (map lineErased (e .before .before .before .args .c .grid)) 32 (lit< tt)))
 
 pub respawn-spec : {M : Type 1} → statement M
 respawn-spec =

@@ -60,7 +60,7 @@ returns c =
     let s = d .before .before .before .before .before in
     let t = k .before .before .if1 .taken in
     let g = same-ground (s .args .c) _ (d .step-on .result) _ (d .step-on .ensures) (stays s) t in
-    closed-at (s .args .c) (d .step-on .result .at) (cutOf (k .close-cut .last .0) (k .close-cut .result)) (w .move-to-border .result .at)
+    closed-at (s .args .c) (d .step-on .result .at) (d .step-on .ensures .inside) (cutOf (k .close-cut .last .0) (k .close-cut .result)) (w .move-to-border .result .at)
     (k .close-cut .ensures ∙ ap (λ (l : List ℕ). closeCut MAX-COMP l (creatures (s .args .c))) g) (ap (λ r. r .at) (w .move-to-border .ensures))
     ∙ shut-made (s .args .c) _ (d .step-on .result) _ (d .step-on .ensures) (stays s) t
 
