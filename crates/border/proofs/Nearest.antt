@@ -25,6 +25,14 @@ use Rattle.border.proofs.Spellings.{each, value, shorter-less, earlier-
 use Rattle.border.proofs.Reaching.{claimed-in, marked, marked-none, none-marked, mark-more, reach-new, reach-old, reach-off}
 use Rattle.border.proofs.Walking as walking
 
+-- the walk's own test says the same
+module _ (g : List ℕ) (c : ℕ) where
+  border-beside : onBorder g c ≡ true → Beside g c
+  border-beside e = e
+
+  inland-not : onBorder g c ≡ false → Beside g c → ⊥
+  inland-not e b = true≢false (sym b ∙ e)
+
 -- what a list holds with one entry more
 module _ (l : List ℕ) (x d : ℕ) where
   old-at : (k : ℕ) → k < length l → getD (l ++ x ∷ []) k d ≡ getD l k d
@@ -233,7 +241,7 @@ module _ (g : List ℕ) (a : ℕ) where
     waits {q} {c} r e =
         ⊎-elim
         (λ (h : Has cells (t .vs) c (value q)). ⊎-elim
-        (λ l. absurd (true≢false (sym e ∙ ap (onBorder g) (sym (h .2)) ∙ t .inland (h .0) l)))
+        (λ l. absurd (inland-not g c (ap (onBorder g) (sym (h .2)) ∙ t .inland (h .0) l) e))
         (λ l. (h .0, l, h .1, h .3))
         (below? (h .0) i))
         (λ h. h)
@@ -249,7 +257,7 @@ module _ (g : List ℕ) (a : ℕ) where
         (λ b. let e : i ≡ k = omega arith in subst (λ (m : ℕ). getD (t .vs) i 0 ≤ getD (t .vs) m 0) e (omega arith))
         (below? i k)
 
-    found : i < length cells → Beside g (getD cells i CN) → Nearest g a (getD cells i CN)
+    found : i < length cells → onBorder g (getD cells i CN) ≡ true → Nearest g a (getD cells i CN)
     found h e =
         let w = t .reached .spelt i h in
         let no-less : (q : Spelling) (c : ℕ) → Walk g a q c → Beside g c → value (w .0) ≤ value q = λ q c r b.
@@ -257,7 +265,7 @@ module _ (g : List ℕ) (a : ℕ) where
         goes (w .0)
         (record {
           walk = w .1;
-          beside = e;
+          beside = border-beside g (getD cells i CN) e;
           shortest = λ q c r b. ⊎-elim (λ l. absurd (omega (arith, shorter-less q (w .0) l, no-less q c r b))) (λ l. l) (below? (steps q) (steps (w .0)));
           earliest = λ q c r b x. omega (arith, earlier-less x, no-less q c r b);
         })
@@ -326,7 +334,7 @@ module _ (g : List ℕ) (a : ℕ) where
 
   pub border-nearest : a < CN → Nearest g a (toBorder g a .at)
   border-nearest h =
-      ⊎-elim (λ e. at-of (walking.stays g a e) (nearest-here e))
+      ⊎-elim (λ e. at-of (walking.stays g a e) (nearest-here (border-beside g a e)))
       (λ e. at-of (walking.walks g a e) (walk-nearest CN (a ∷ []) 0 (starting h) (omega arith)))
       (bool-cases (onBorder g a))
 

@@ -22,11 +22,11 @@ use Rattle.border.specs.Border.{among, reach, reachAround}
 module _ (g : List ℕ) (c : ℕ) where
   pub claimed-in : claimed g c ≡ true → c < CN
   unfolding claimed
-  claimed-in e = ltb-true c CN (and-left (ltb c CN) (eqb (cellAt g c) CB-FILLED) e)
+  claimed-in e = ltb-true c CN (and-left (ltb c CN) _ e)
 
   pub claimed-code : claimed g c ≡ true → cellAt g c ≡ CB-FILLED
   unfolding claimed
-  claimed-code e = eqb-true (cellAt g c) CB-FILLED (and-right (ltb c CN) (eqb (cellAt g c) CB-FILLED) e)
+  claimed-code e = eqb-true (cellAt g c) CB-FILLED (and-right (ltb c CN) _ e)
 
   pub code-claimed : c < CN → cellAt g c ≡ CB-FILLED → claimed g c ≡ true
   unfolding claimed
