@@ -3,6 +3,7 @@
 //! [`games`] holds the original module over [`stand_ins`] for the crates it leans on.
 //! [`calls`] are document 01's public calls on it, with refusals of this crate's own in
 //! [`check`]. [`trace`] writes calls with their answers, [`replay`] reads them back.
+//! What document 02 adds is written from it, and compared with the original: [`nearest`].
 
 pub mod bytes;
 pub mod calls;
@@ -12,6 +13,7 @@ pub mod games;
 pub mod host;
 pub mod lines;
 pub mod make;
+pub mod nearest;
 pub mod replay;
 pub mod rng;
 pub mod stand_ins;

@@ -8,6 +8,7 @@ pub mod cutter_grounds;
 pub mod cutter_play;
 pub mod cutter_states;
 pub mod cutter_variations;
+pub mod cutter_walks;
 pub mod damage;
 pub mod mine_corners;
 pub mod mine_play;

@@ -27,18 +27,18 @@ pub fn draws(level: u32, rng: &mut Rng) -> Vec<u8> {
     bounds.take(draws_for(level)).map(|&bound| rng.below(usize::from(bound)) as u8).collect()
 }
 
-fn inside(i: usize) -> bool {
+pub(super) fn inside(i: usize) -> bool {
     (1..CW - 1).contains(&(i % CW)) && (1..CH - 1).contains(&(i / CW))
 }
 
-fn fill(c: &mut Cutter, mut code: impl FnMut(usize, usize) -> u8) {
+pub(super) fn fill(c: &mut Cutter, mut code: impl FnMut(usize, usize) -> u8) {
     for i in (0..CN).filter(|&i| inside(i)) {
         c.grid[i] = code(i % CW, i / CW);
     }
 }
 
 /// Black and claimed inside the ring: open, noise, rooms, stripes, chequers, slivers.
-fn ground(c: &mut Cutter, rng: &mut Rng) {
+pub(super) fn ground(c: &mut Cutter, rng: &mut Rng) {
     let code = |black: bool| if black { BLACK } else { CLAIMED };
     match rng.below(9) {
         0 => {}
@@ -128,7 +128,7 @@ fn wander(at: usize, rng: &mut Rng) -> usize {
 }
 
 /// Up to sixteen creatures on black, some on one cell, some next to the player.
-fn place_movers(c: &mut Cutter, rng: &mut Rng) {
+pub(super) fn place_movers(c: &mut Cutter, rng: &mut Rng) {
     c.enemies = Default::default();
     c.count = 0;
     let black: Vec<usize> = (0..CN).filter(|&i| c.grid[i] == BLACK).collect();
