@@ -17,25 +17,29 @@ use Rattle.joined.proofs.Joined.{black-in, black-last, black-first, nex
 use Rattle.joined.proofs.Steps.{left-next, right-next, up-next, down-next, one-of}
 
 -- the number v, or the cell d's where d is black and its number is less
-unfoldable lower : List ℕ → List ℕ → ℕ → ℕ → ℕ
+unfoldable pub lower : List ℕ → List ℕ → ℕ → ℕ → ℕ
 lower g L d v = cond (blackAt g d) (min (getD L d CN) v) v
 
+-- the least among a cell's number and its black neighbours'
+unfoldable pub least : List ℕ → List ℕ → ℕ → ℕ
+least g L c = lower g L (leftOf c) (lower g L (rightOf c) (lower g L (upOf c) (lower g L (downOf c) (getD L c CN))))
+
 unfoldable low : List ℕ → List ℕ → ℕ → ℕ
-low g L c = cond (blackAt g c) (lower g L (leftOf c) (lower g L (rightOf c) (lower g L (upOf c) (lower g L (downOf c) (getD L c CN))))) CN
+low g L c = cond (blackAt g c) (least g L c) CN
 
 unfoldable sweep : List ℕ → List ℕ → List ℕ
 sweep g L = table CN (low g L)
 
 -- each black cell's own number
-unfoldable owns : List ℕ → List ℕ
+unfoldable pub owns : List ℕ → List ℕ
 owns g = table CN (λ c. cond (blackAt g c) c CN)
 
 -- what every sweep keeps
-record Low (g L : List ℕ) : Type 0 where
-  len : length L ≡ CN
-  own : (c : ℕ) → Black g c → Joined g (getD L c CN) c
-  small : (c : ℕ) → Black g c → getD L c CN ≤ c
-  other : (c : ℕ) → (Black g c → ⊥) → getD L c CN ≡ CN
+pub record Low (g L : List ℕ) : Type 0 where
+  pub len : length L ≡ CN
+  pub own : (c : ℕ) → Black g c → Joined g (getD L c CN) c
+  pub small : (c : ℕ) → Black g c → getD L c CN ≤ c
+  pub other : (c : ℕ) → (Black g c → ⊥) → getD L c CN ≡ CN
 
 -- w is v lowered by d's number
 record Lowered (g L : List ℕ) (c d v w : ℕ) : Type 0 where
@@ -60,11 +64,10 @@ module _ {g L : List ℕ} (long : length g ≡ CN) (l : Low g L) where
       (λ (k : Black g d → ⊥). rw (ne-eqb (cellAt g d) CB-BLACK k) (record { joined = j; less = omega arith; under = λ b. absurd (k b) }))
       (black? g d)
 
-  low-black : (c : ℕ) → Black g c → Joined g (low g L c) c × (low g L c ≤ getD L c CN) × ((d : ℕ) → Next c d → Black g d → low g L c ≤ getD L d CN)
-  unfolding low
-  low-black c k =
-      rw (eq-eqb (cellAt g c) CB-BLACK k)
-      (let a = lower-ok c (downOf c) (getD L c CN) (down-next g long c) (l .own c k) in
+  pub least-black : (c : ℕ) → Black g c → Joined g (least g L c) c × (least g L c ≤ getD L c CN) × ((d : ℕ) → Next c d → Black g d → least g L c ≤ getD L d CN)
+  unfolding least
+  least-black c k =
+      let a = lower-ok c (downOf c) (getD L c CN) (down-next g long c) (l .own c k) in
       let b = lower-ok c (upOf c) _ (up-next g long c) (a .joined) in
       let d = lower-ok c (rightOf c) _ (right-next g long c) (b .joined) in
       let e = lower-ok c (leftOf c) _ (left-next g long c) (d .joined) in (
@@ -74,7 +77,11 @@ module _ {g L : List ℕ} (long : length g ≡ CN) (l : Low g L) where
             one-of g long c (λ x. Black g x → lower g L (leftOf c) (lower g L (rightOf c) (lower g L (upOf c) (lower g L (downOf c) (getD L c CN)))) ≤ getD L x CN)
             (λ m. e .under m) (λ m. omega (arith, d .under m, e .less)) (λ m. omega (arith, b .under m, d .less, e .less)) (λ m. omega (arith, a .under m, b .less, d .less, e .less))
             x n m m,
-      ))
+      )
+
+  low-black : (c : ℕ) → Black g c → low g L c ≡ least g L c
+  unfolding low
+  low-black c k = rw (eq-eqb (cellAt g c) CB-BLACK k)
 
   low-other : (c : ℕ) → (Black g c → ⊥) → low g L c ≡ CN
   unfolding low
@@ -95,33 +102,33 @@ module _ {g L : List ℕ} (long : length g ≡ CN) (l : Low g L) where
   sweep-low =
       record {
         len = sweep-length;
-        own = λ c k. rw (sweep-at c (inside c k)) (low-black c k .0);
-        small = λ c k. omega (arith, sweep-at c (inside c k), low-black c k .1, l .small c k);
+        own = λ c k. rw (sweep-at c (inside c k), low-black c k) (least-black c k .0);
+        small = λ c k. omega (arith, sweep-at c (inside c k), low-black c k, least-black c k .1, l .small c k);
         other = λ c k. ⊎-elim (λ h. sweep-at c h ∙ low-other c k) (λ h. List·getD-eq-default (sweep g L) CN (omega (arith, sweep-length))) (below? c CN);
       }
 
   sweep-less : (c : ℕ) → getD (sweep g L) c CN ≤ getD L c CN
-  sweep-less c = ⊎-elim (λ k. omega (arith, sweep-at c (inside c k), low-black c k .1)) (λ k. omega (arith, sweep-low .other c k, l .other c k)) (black? g c)
+  sweep-less c = ⊎-elim (λ k. omega (arith, sweep-at c (inside c k), low-black c k, least-black c k .1)) (λ k. omega (arith, sweep-low .other c k, l .other c k)) (black? g c)
 
-  -- where a sweep changes nothing, the numbers are right
-  settled : sweep g L ≡ L → Right g L
-  settled e =
+  -- where no black cell would go lower, the numbers are right
+  pub settled-at : ((c : ℕ) → Black g c → least g L c ≡ getD L c CN) → Right g L
+  settled-at f =
       record {
         len = l .len;
         own = l .own;
         least = λ c d j.
             closed (λ x. Black g x × (getD L x CN ≤ d)) (black-first j, l .small d (black-first j))
-            (λ x y s n k.
-            let u = low-black y k .2 x (next-sym n) (s .0) in
-            let f : low g L y ≡ getD L y CN = sym (sweep-at y (inside y k)) ∙ ap (λ (m : List ℕ). getD m y CN) e in
-            (k, omega (arith, u, f, s .1)))
+            (λ x y s n k. let u = least-black y k .2 x (next-sym n) (s .0) in (k, omega (arith, u, f y k, s .1)))
             j .1;
         other = l .other;
       }
 
+  settled : sweep g L ≡ L → Right g L
+  settled e = settled-at (λ c k. sym (low-black c k) ∙ sym (sweep-at c (inside c k)) ∙ ap (λ (m : List ℕ). getD m c CN) e)
+
 -- ---- it settles: the sum of the numbers falls
 
-unfoldable total : List ℕ → ℕ
+unfoldable pub total : List ℕ → ℕ
 total [] = 0
 total (x ∷ xs) = x + total xs
 
@@ -155,7 +162,7 @@ owns-length g = length-table CN (λ c. cond (blackAt g c) c CN)
 owns-black : (g : List ℕ) (c : ℕ) → c < CN → Black g c → getD (owns g) c CN ≡ c
 owns-black g c h k = owns-at g c h ∙ rw (eq-eqb (cellAt g c) CB-BLACK k)
 
-owns-low : (g : List ℕ) → length g ≡ CN → Low g (owns g)
+pub owns-low : (g : List ℕ) → length g ≡ CN → Low g (owns g)
 owns-low g long =
     record {
       len = owns-length g;

@@ -1,0 +1,16 @@
+use borrow.Author.Tests.{eq-eqb, ne-eqb}
+use borrow.Author.Needs.{needs}
+use Rattle.cutter_sweeps.proofs.own.Statement.{statement}
+use Rattle.cutter_sweeps.proofs.own.Tie as tie
+
+cast-result : tie.Need-cast-result
+cast-result c = search needs
+
+returns : tie.Need-returns
+returns c = rw (eq-eqb _ _ (c .if1 .taken))
+
+returns-2 : tie.Need-returns-2
+returns-2 c = rw (ne-eqb _ _ (c .if1 .left))
+
+pub own-spec : {M : Type 1} → statement M
+own-spec = tie.close (tie.spec cast-result returns returns-2)

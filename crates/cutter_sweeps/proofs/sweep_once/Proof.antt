@@ -1,0 +1,89 @@
+use borrow.Author.Needs.{needs}
+use mathlib.Core.Logic.{⊎-elim}
+use mathlib.Core.Path.{_≡_, sym, _∙_}
+use Prim.Native.Nat.{_-_}
+use native.Mathlib.Omega.{arith}
+use lib.ListN.{getD}
+use denote.Ref.{now}
+use Rattle.laws.proofs.Lists.{getD-default}
+use Rattle.ground.specs.Cells.{CN, CB-FILLED}
+use Rattle.cutter_sweeps.proofs.Sweeping.{Sweeping, sweeping-start, sweeping-lower, sweeping-kept, sweeping-end}
+use Rattle.cutter_sweeps.proofs.sweep_once.Statement.{statement}
+use Rattle.cutter_sweeps.proofs.sweep_once.Tie as tie
+
+abbrev Inv-loop : tie.InvT-loop
+Inv-loop grid nums₀ changed₀ i₀ nums changed i = Sweeping grid nums₀ nums changed i
+
+abbrev μ-loop : tie.MeasureT-loop
+μ-loop grid nums₀ changed₀ i₀ nums changed i = CN - i
+
+loop-holds : tie.Need-loop-holds Inv-loop μ-loop
+loop-holds c = sweeping-start (c .pre)
+
+element-copy-out-if1 : tie.Need-element-copy-out-if1 Inv-loop μ-loop
+element-copy-out-if1 c = search needs
+
+lowest-requires : tie.Need-lowest-requires Inv-loop μ-loop
+lowest-requires c κs =
+    let a = c .before .before .before .before in
+    record { numbers = record { cells = a .before .pre .cells; len = a .loop .inv .len }; inside = c .before .before .before .loop-test .taken }
+
+mul-if2 : tie.Need-mul-if2 Inv-loop μ-loop
+mul-if2 c = search needs
+
+element-copy-out-if2 : tie.Need-element-copy-out-if2 Inv-loop μ-loop
+element-copy-out-if2 c = search needs
+
+mul-nums : tie.Need-mul-nums Inv-loop μ-loop
+mul-nums c = search needs
+
+element-write-nums : tie.Need-element-write-nums Inv-loop μ-loop
+element-write-nums c = search needs
+
+add-changed : tie.Need-add-changed Inv-loop μ-loop
+add-changed c = let a = c .before .before .before .before .before .before .before in omega (arith, a .loop .inv .few, c .before .before .before .before .before .before .loop-test)
+
+add-i : tie.Need-add-i Inv-loop μ-loop
+add-i c = search needs
+
+loop-less : tie.Need-loop-less Inv-loop μ-loop
+loop-less c = search needs
+
+loop-again : tie.Need-loop-again Inv-loop μ-loop
+loop-again c =
+    let a = c .before .before .before in
+    let g = now (a .before .args .grid) in
+    let L = a .loop .nums in
+    let i = a .loop .i in
+    let h = c .before .before .loop-test .taken in
+    let at : getD L i 0 ≡ getD L i CN = getD-default L i 0 CN (omega (arith, a .loop .inv .len)) in
+    let gat : getD g i CB-FILLED ≡ getD g i 0 = getD-default g i CB-FILLED 0 (omega (arith, a .before .pre)) in
+    ⊎-elim
+    (λ w. rw (w .5, w .6, w .2 .ensures) (sweeping-lower (a .loop .inv) h (gat ∙ w .0 .taken) (omega (arith, w .4 .taken, w .2 .ensures, at))))
+    (λ v. ⊎-elim
+    (λ w. rw (w .5, w .6) (sweeping-kept (a .loop .inv) h (λ k. omega (arith, w .4 .left, w .2 .ensures, at))))
+    (λ w. rw (w .1, w .2) (sweeping-kept (a .loop .inv) h (λ k. absurd (w .0 .left (sym gat ∙ k)))))
+    v)
+    (c .if1 .came)
+
+returns : tie.Need-returns Inv-loop μ-loop
+returns c = sweeping-end (c .before .loop .inv) (c .loop-test .left)
+
+pub sweep-once-spec : {M : Type 1} → statement M
+sweep-once-spec =
+    tie.close
+    (tie.spec
+    Inv-loop
+    μ-loop
+    loop-holds
+    element-copy-out-if1
+    lowest-requires
+    mul-if2
+    element-copy-out-if2
+    mul-nums
+    element-write-nums
+    add-changed
+    add-i
+    loop-less
+    loop-again
+    returns)

@@ -1,0 +1,31 @@
+-- What the sweeps' functions ask of the grid and of their table, and what one sweep does.
+use mathlib.Core.Path.{_≡_}
+use mathlib.Core.Bool.{not}
+use mathlib.Core.List.{List, zipWith}
+use Prim.Native.Nat.{ℕ, _+_, _≤_, _<_}
+use lib.Dec.{eqb}
+use lib.ListN.{length}
+use Rattle.laws.specs.Lists.{count}
+use Rattle.ground.specs.Cells.{CN}
+use Rattle.joined.proofs.Labels.{total}
+use Rattle.cutter_sweeps.specs.Sweeps.{sweep}
+
+pub record Numbers (g L : List ℕ) : Type 0 where
+  pub cells : length g ≡ CN
+  pub len : length L ≡ CN
+
+pub record Lowest (g L : List ℕ) (at : ℕ) : Type 0 where
+  pub numbers : Numbers g L
+  pub inside : at < CN
+
+-- how many cells have another number
+unfoldable pub changes : List ℕ → List ℕ → ℕ
+changes L M = count (λ b. b) (zipWith (λ x y. not (eqb x y)) L M)
+
+-- one sweep makes M of L and changes n cells; each change brings the sum of the numbers down
+pub record Swept (g L M : List ℕ) (n : ℕ) : Type 0 where
+  pub is : M ≡ sweep g L
+  pub len : length M ≡ CN
+  pub many : n ≡ changes L M
+  pub same : n ≡ 0 → M ≡ L
+  pub falls : total M + n ≤ total L
