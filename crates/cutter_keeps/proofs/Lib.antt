@@ -11,3 +11,4 @@ pub mod Closing
 pub mod Steps
 pub mod Accounts
 pub mod Nearest
+pub mod Sweeps
