@@ -61,16 +61,16 @@ pub fn sweep_once(grid: &[u8; CN], nums: &mut [u16; CN]) -> u16
     ensures { λ r. ⌜ Swept (now (grid .entry)) (now (nums .entry)) (now (nums .exit)) r ⌝ }
 {
     let mut changed: u16 = 0;
-    let mut i: usize = 0;
-    while i < CN {
-        if grid[i] == CB_BLACK {
-            let v = lowest(grid, nums, i);
-            if v < nums[i] {
-                nums[i] = v;
+    let mut at: usize = 0;
+    while at < CN {
+        if grid[at] == CB_BLACK {
+            let v = lowest(grid, nums, at);
+            if v < nums[at] {
+                nums[at] = v;
                 changed += 1;
             }
         }
-        i += 1;
+        at += 1;
     }
     changed
 }

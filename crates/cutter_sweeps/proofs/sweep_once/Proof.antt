@@ -12,10 +12,10 @@ use Rattle.cutter_sweeps.proofs.sweep_once.Statement.{statement}
 use Rattle.cutter_sweeps.proofs.sweep_once.Tie as tie
 
 abbrev Inv-loop : tie.InvT-loop
-Inv-loop grid nums₀ changed₀ i₀ nums changed i = Sweeping grid nums₀ nums changed i
+Inv-loop grid nums₀ changed₀ at₀ nums changed at = Sweeping grid nums₀ nums changed at
 
 abbrev μ-loop : tie.MeasureT-loop
-μ-loop grid nums₀ changed₀ i₀ nums changed i = CN - i
+μ-loop grid nums₀ changed₀ at₀ nums changed at = CN - at
 
 loop-holds : tie.Need-loop-holds Inv-loop μ-loop
 loop-holds c = sweeping-start (c .pre)
@@ -43,8 +43,8 @@ element-write-nums c = search needs
 add-changed : tie.Need-add-changed Inv-loop μ-loop
 add-changed c = let a = c .before .before .before .before .before .before .before in omega (arith, a .loop .inv .few, c .before .before .before .before .before .before .loop-test)
 
-add-i : tie.Need-add-i Inv-loop μ-loop
-add-i c = search needs
+add-at : tie.Need-add-at Inv-loop μ-loop
+add-at c = search needs
 
 loop-less : tie.Need-loop-less Inv-loop μ-loop
 loop-less c = search needs
@@ -54,7 +54,7 @@ loop-again c =
     let a = c .before .before .before in
     let g = now (a .before .args .grid) in
     let L = a .loop .nums in
-    let i = a .loop .i in
+    let i = a .loop .at in
     let h = c .before .before .loop-test .taken in
     let at : getD L i 0 ≡ getD L i CN = getD-default L i 0 CN (omega (arith, a .loop .inv .len)) in
     let gat : getD g i CB-FILLED ≡ getD g i 0 = getD-default g i CB-FILLED 0 (omega (arith, a .before .pre)) in
@@ -83,7 +83,7 @@ sweep-once-spec =
     mul-nums
     element-write-nums
     add-changed
-    add-i
+    add-at
     loop-less
     loop-again
     returns)
