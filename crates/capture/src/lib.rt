@@ -10,9 +10,10 @@ ghost use mathlib.Core.List.{zipWith};
 ghost use lib.ListN.{length, take};
 ghost use Rattle.ground.specs.Cells.{CN};
 ghost use Rattle.ground.specs.Visit.{SEEN};
-ghost use Rattle.closing.specs.Closing.{claimLine, lineClaimed, closeCut};
+ghost use Rattle.joined.proofs.Labels.{labels};
+ghost use Rattle.closing.specs.Closing.{claimLine, lineClaimed, closed, closeCut};
 ghost use Rattle.capture.specs.Steps.{KEPT, Closable, having, more, leader, Ordered, keepOf, shut, Retained, Closes, cutOf};
-ghost use Rattle.capture.specs.Choosing.{Choosable, Chosen, Markable, Marked};
+ghost use Rattle.capture.specs.Choosing.{Numbered, Choosable, Chosen, Markable, Marked};
 
 // Most regions one cut counts; extra ones stay black.
 pub const MAX_COMP: usize = 48;
@@ -97,17 +98,18 @@ fn better(lead: Lead, from: usize, to: usize, crowd: u16) -> Lead
     lead
 }
 
-// Searches the regions in the order of their earliest cells, at most limit of them, and chooses the one to keep: most creatures, then most cells,
+// Finds the regions in the order of their earliest cells, at most limit of them, and chooses the one to keep: most creatures, then most cells,
 // then the earliest.
 fn choose(
     grid: &[u8; CN],
+    nums: &[u16],
     seen: &mut [u8; CN],
     queue: &mut [u16; CN],
     enemies: [Mover; MAX_ENEMIES],
     count: usize,
     limit: u16,
 ) -> Choice
-    requires { ⌜ Choosable (now grid) (now seen) (now queue) enemies count limit ⌝ }
+    requires { ⌜ Choosable (now grid) (now nums) (now seen) (now queue) enemies count limit ⌝ }
     ensures { λ r. ⌜ Chosen limit (now (grid .entry)) (take count enemies) (now (seen .exit)) (now (queue .exit)) (r .from) (r .to) (r .taken) ⌝ }
 {
     let mut lead = Lead {
@@ -129,7 +131,7 @@ fn choose(
                         taken: tail,
                     };
                 }
-                let end = regions::search(grid, seen, queue, tail, start);
+                let end = regions::find(grid, nums, seen, queue, tail, start);
                 let stand = standing(seen, enemies, count);
                 lead = better(lead, tail, end, stand - stood);
                 tail = end;
@@ -213,6 +215,26 @@ fn retain(seen: &[u8; CN], enemies: [Mover; MAX_ENEMIES], count: usize, keep: u8
     }
 }
 
+// Closes the regions of a ground without a line, found by their numbers where nums has any; the creatures that remain.
+fn close_regions(
+    grid: &mut [u8; CN],
+    nums: &[u16],
+    enemies: [Mover; MAX_ENEMIES],
+    count: usize,
+    limit: u16,
+) -> Herd
+    requires { ⌜ Closes (now grid) enemies count limit × Numbered (now grid) (now nums) ⌝ }
+    ensures { λ r. ⌜ cutOf (now (grid .exit)) r ≡ closed limit (now (grid .entry)) (labels (now (grid .entry)) .0) (take count enemies) ⌝ }
+{
+    let mut seen = [0u8; CN];
+    let mut queue = [0u16; CN];
+    let best = choose(grid, nums, &mut seen, &mut queue, enemies, count, limit);
+    mark(&mut seen, &queue, best.from, best.to);
+    claim_rest(grid, &seen);
+    let keep = keep_of(best.from, best.to);
+    retain(&seen, enemies, count, keep)
+}
+
 // Closes a finished trail on the lent ground; the creatures that remain.
 pub fn close_cut(
     grid: &mut [u8; CN],
@@ -224,11 +246,21 @@ pub fn close_cut(
     ensures { λ r. ⌜ cutOf (now (grid .exit)) r ≡ closeCut limit (now (grid .entry)) (take count enemies) ⌝ }
 {
     claim_line(grid);
-    let mut seen = [0u8; CN];
-    let mut queue = [0u16; CN];
-    let best = choose(grid, &mut seen, &mut queue, enemies, count, limit);
-    mark(&mut seen, &queue, best.from, best.to);
-    claim_rest(grid, &seen);
-    let keep = keep_of(best.from, best.to);
-    retain(&seen, enemies, count, keep)
+    close_regions(grid, &[], enemies, count, limit)
+}
+
+// The same by sweeps.
+pub fn close_by_sweeps(
+    grid: &mut [u8; CN],
+    enemies: [Mover; MAX_ENEMIES],
+    count: usize,
+    limit: u16,
+) -> Herd
+    requires { ⌜ Closes (now grid) enemies count limit ⌝ }
+    ensures { λ r. ⌜ cutOf (now (grid .exit)) r ≡ closeCut limit (now (grid .entry)) (take count enemies) ⌝ }
+{
+    claim_line(grid);
+    let mut nums = [0u16; CN];
+    cutter_sweeps::settle(grid, &mut nums);
+    close_regions(grid, &nums, enemies, count, limit)
 }
