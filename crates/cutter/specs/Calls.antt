@@ -14,6 +14,7 @@ use Rattle.cutter_state.specs.WellFormed.{MAX-LIVES, refusalOf}
 use Rattle.cutter_rules.specs.Level.{creaturesOf, drawsOk, freshLevel}
 use Rattle.cutter_rules.specs.Step.{LEFT, directed, stepped, respawned}
 use Rattle.cutter_rules.specs.Tick.{enemiesStepped}
+use Rattle.cutter_keeps.specs.Sweeps.{sweptStep}
 use Rattle.cutter_keeps.specs.Kept.{INNER, blackIn, claimedIn, lineIn}
 use Rattle.cutter.specs.declared.calls.CutterAnswer.{CutterAnswer}
 use Rattle.cutter.specs.declared.calls.Ground.{Ground}
@@ -69,6 +70,10 @@ directionCall c dir = refusedOr (refusalOf c then unless (leb dir LEFT) COMMAND)
 -- step
 unfoldable pub stepCall : Cutter → CutterAnswer
 stepCall c = refusedOr (refusalOf c) (refused c) (answered (stepped c))
+
+-- step, a cut closed by sweeps
+unfoldable pub sweepsCall : Cutter → CutterAnswer
+sweepsCall c = refusedOr (refusalOf c) (refused c) (answered (sweptStep c))
 
 -- creature tick
 unfoldable pub enemiesCall : Cutter → CutterAnswer

@@ -17,7 +17,7 @@ use refusal::Refusal;
 ghost use mathlib.Core.Path.{_≡_};
 ghost use Prim.Native.Nat.{_≤_};
 ghost use Rattle.cutter_keeps.specs.Kept.{INNER};
-ghost use Rattle.cutter.specs.Calls.{zeros, roundCall, levelCall, directionCall, stepCall, enemiesCall, respawnCall, shareOf, reportCall};
+ghost use Rattle.cutter.specs.Calls.{zeros, roundCall, levelCall, directionCall, stepCall, sweepsCall, enemiesCall, respawnCall, shareOf, reportCall};
 
 #[repr(C)]
 pub struct CutterAnswer {
@@ -142,6 +142,23 @@ pub fn step_player(c: Cutter) -> CutterAnswer
     CutterAnswer {
         refusal: refusal::NONE,
         game: cutter_moves::step_player(c),
+    }
+}
+
+// One step in the direction; a cut is closed by sweeps.
+pub fn step_by_sweeps(c: Cutter) -> CutterAnswer
+    ensures { λ r. ⌜ r ≡ sweepsCall c ⌝ }
+{
+    let no = check(c);
+    if no != refusal::NONE {
+        return CutterAnswer {
+            refusal: no,
+            game: c,
+        };
+    }
+    CutterAnswer {
+        refusal: refusal::NONE,
+        game: cutter_moves::step_by_sweeps(c),
     }
 }
 

@@ -11,6 +11,7 @@ pub use calls::ground_report;
 pub use calls::new_level;
 pub use calls::new_round;
 pub use calls::respawn;
+pub use calls::step_by_sweeps;
 pub use calls::step_enemies;
 pub use calls::step_player;
 pub use picture::render;

@@ -3,6 +3,9 @@ use mathlib.Core.Bool.{Bool, true, false, cond, false≢true}
 use mathlib.Core.List.{List}
 use mathlib.Core.Path.{_≡_, refl, sym, ap, _∙_}
 use Prim.Native.Nat.{ℕ, _/_, _%_}
+use mir.Facts.{toZ-ofZ}
+use mir.Syntax.{w8}
+use mir.Val.{SFits, toZ, ofZ}
 use lib.IntN.{pos}
 use lib.ListN.{set, getD}
 use lib.Seq.{set-getD}
@@ -11,7 +14,7 @@ use Rattle.cutter_state.specs.declared.Cutter.{Cutter}
 use Rattle.cutter_state.specs.Change.{withGrid, withTrailing, killed}
 use Rattle.cutter_rules.specs.Step.{playerCell, entered, laid, stopped, stepped}
 use Rattle.cutter_moves.specs.declared.player.Step.{Step}
-use Rattle.cutter_moves.specs.Steps.{staying, laying, closedAt, applied, does, Plays, SteppedOn}
+use Rattle.cutter_moves.specs.Steps.{playing, staying, laying, closedAt, applied, does, Plays, SteppedOn}
 
 -- the same with one thing changed
 abbrev pub dying : Step → Step
@@ -37,6 +40,11 @@ first-chosen false u v e = absurd (false≢true e)
 pub second-chosen : {A : Type 0} (b : Bool) (u v : A) → b ≡ false → v ≡ cond b u v
 second-chosen true u v e = absurd (false≢true (sym e))
 second-chosen false u v e = refl
+
+-- the numbers that a step hands over are the player as it is
+pub stays : (c : Cutter) → SFits w8 (c .dx) → SFits w8 (c .dy)
+    → playing (c .grid) (c .px) (c .py) (toZ w8 (ofZ w8 (c .dx))) (toZ w8 (ofZ w8 (c .dy))) (c .trailing) (c .dead) ≡ staying c
+stays c fx fy = simp (toZ-ofZ fx, toZ-ofZ fy) refl
 
 -- what a step on the state's own ground, which is h then, makes of the state
 module _ (c : Cutter) (s r : Step) (h : List ℕ) (d : SteppedOn (c .grid) (c .enemies) (c .count) s r h) (e : s ≡ staying c) where

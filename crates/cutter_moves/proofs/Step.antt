@@ -5,6 +5,7 @@ use mathlib.Core.Path.{_≡_, refl, sym, ap, _∙_}
 use Prim.Native.Nat.{ℕ, zero, suc, _<_, _/_, _%_}
 use native.Mathlib.Omega.{arith}
 use lib.IntN.{pos, negsuc}
+use lib.Dec.{lit<}
 use lib.ListN.{length}
 use borrow.Author.Tests.{lt-ltb, eqb-true}
 use Rattle.laws.proofs.Lists.{all-weaken}
@@ -15,19 +16,22 @@ use Rattle.closing.specs.Counted.{MAX-COMP}
 use Rattle.closing.specs.Closing.{closeCut}
 use Rattle.closing.specs.declared.Cut.{Cut}
 use Rattle.closing.proofs.Sums.{length-after}
-use Rattle.capture.specs.Steps.{inside, Closable}
+use Rattle.capture.specs.Steps.{inside, Closable, Closes}
 use Rattle.border.specs.Border.{toBorder}
+use Rattle.border.specs.Tables.{Standing}
 use Rattle.border.proofs.Nearest.{nearest, walk-at}
 use Rattle.cutter_state.specs.declared.Cutter.{Cutter}
 use Rattle.cutter_state.specs.State.{place, creatures}
 use Rattle.cutter_state.specs.Change.{withGrid, withCreatures, withTrailing}
 use Rattle.cutter_state.specs.WellFormed.{moverOk, footing, WellFormed}
 use Rattle.cutter_state.proofs.Ring.{holds-inside}
-use Rattle.cutter_rules.specs.Step.{unitX, unitY, entered, cutClosed, atBorder}
+use Rattle.cutter_rules.specs.Step.{unitX, unitY, entered, cutClosed, atBorder, stepped}
 use Rattle.cutter_rules.proofs.Apart.{mover-black}
 use Rattle.cutter_rules.proofs.Step.{place-cell}
 use Rattle.cutter_moves.specs.Moves.{OnGrid}
-use Rattle.cutter_moves.specs.Steps.{closedAt}
+use Rattle.cutter_moves.specs.declared.player.Step.{Step}
+use Rattle.cutter_moves.specs.Steps.{staying, closedAt, SteppedOn}
+use Rattle.cutter_moves.proofs.Applied.{same-ground, shut-made}
 
 -- past 2 the unit step is left
 pub left-else : (d : ℕ) → (d ≡ 0 → ⊥) → (d ≡ 1 → ⊥) → (d ≡ 2 → ⊥) → (unitX d ≡ negsuc 0) × (unitY d ≡ pos 0)
@@ -42,7 +46,7 @@ inside-grid : (g : List ℕ) (e : Mover) → length g ≡ CN → moverOk g e ≡
 inside-grid g e h m = lt-ltb (cellOf e) CN (omega (arith, black-in g (cellOf e) (eqb-true (cellAt g (cellOf e)) CB-BLACK (mover-black g e m))))
 
 -- a well-formed state can be closed
-pub closable : (c : Cutter) → WellFormed c → Closable (c .enemies) (c .count)
+closable : (c : Cutter) → WellFormed c → Closable (c .enemies) (c .count)
 closable c w =
     record {
       few = w .few;
@@ -53,17 +57,33 @@ closable c w =
 pub on-grid : (c : Cutter) → WellFormed c → OnGrid (c .px) (c .py)
 on-grid c w = let h = holds-inside (c .grid) (footing (c .trailing)) (c .px) (c .py) (w .player) in record { across = h .0; down = h .1 }
 
--- the ground after a closing
-pub closed-cells : (c : Cutter) → WellFormed c → (cut : Cut) → cut ≡ closeCut MAX-COMP (c .grid) (creatures c) → length (cut .grid) ≡ CN
-closed-cells c w cut e = ap (λ (k : Cut). length (k .grid)) e ∙ length-after MAX-COMP (c .grid) (creatures c) (w .cells)
-
 -- a state whose cut is closed
 abbrev shut : Cutter → Cut → Cutter
 shut c cut = withTrailing (withCreatures (withGrid c (cut .grid)) (cut .enemies) (cut .count)) false
 
 -- a step that closes at the cell t: the cut closed, and where the walk from t ends
-pub closed-at : (c : Cutter) (t : ℕ) → t < CN → (cut : Cut) (end : ℕ) → cut ≡ closeCut MAX-COMP (c .grid) (creatures c) → end ≡ toBorder (cut .grid) t .at → entered (shut c cut) end ≡ closedAt c t
+closed-at : (c : Cutter) (t : ℕ) → t < CN → (cut : Cut) (end : ℕ) → cut ≡ closeCut MAX-COMP (c .grid) (creatures c) → end ≡ toBorder (cut .grid) t .at → entered (shut c cut) end ≡ closedAt c t
 unfolding cutClosed atBorder
 closed-at c t h cut end e f =
     ap (entered (shut c cut)) (f ∙ walk-at (cut .grid) t h ∙ ap (λ (n : ℕ). nearest (cut .grid) n .0) (sym (place-cell t)))
     ∙ ap (λ (k : Cut). entered (shut c k) (nearest (k .grid) (place (t % CW) (t / CW)) .0)) e
+
+-- a step on the state's own ground, which is h then, at which a cut is yet to be closed
+module _ (c : Cutter) (w : WellFormed c) (s r : Step) (h : List ℕ) (d : SteppedOn (c .grid) (c .enemies) (c .count) s r h) (e : s ≡ staying c) (t : r .closes ≡ true) where
+  same : h ≡ c .grid
+  same = same-ground c s r h d e t
+
+  pub shut-closes : Closes h (c .enemies) (c .count) MAX-COMP
+  shut-closes = record { cells = ap length same ∙ w .cells; closable = closable c w; some = lit< tt }
+
+  -- the cut closed, by either engine
+  module _ (cut : Cut) (k : cut ≡ closeCut MAX-COMP h (creatures c)) where
+    own : cut ≡ closeCut MAX-COMP (c .grid) (creatures c)
+    own = k ∙ ap (λ (g : List ℕ). closeCut MAX-COMP g (creatures c)) same
+
+    pub shut-standing : Standing (cut .grid) (r .at)
+    shut-standing = record { cells = ap (λ (x : Cut). length (x .grid)) own ∙ length-after MAX-COMP (c .grid) (creatures c) (w .cells); inside = d .inside }
+
+    -- and where the walk ends
+    pub shut-step : (end : ℕ) → end ≡ toBorder (cut .grid) (r .at) .at → entered (shut c cut) end ≡ stepped c
+    shut-step end f = closed-at c (r .at) (d .inside) cut end own f ∙ shut-made c s r h d e t

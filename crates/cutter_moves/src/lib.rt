@@ -9,5 +9,6 @@ pub use enemies::tick;
 pub use player::Step;
 pub use player::direction;
 pub use player::respawn;
+pub use player::step_by_sweeps;
 pub use player::step_on;
 pub use player::step_player;

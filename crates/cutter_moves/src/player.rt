@@ -8,11 +8,13 @@ ghost use Rattle.ground.specs.Cells.{CN};
 ghost use Rattle.cutter_state.specs.Change.{withDirection};
 ghost use Rattle.cutter_state.specs.WellFormed.{isZero, WellFormed};
 ghost use Rattle.cutter_rules.specs.Step.{directed, trailingStep, walkingStep, stepped, lineErased, respawned};
+ghost use Rattle.cutter_keeps.specs.Sweeps.{sweptStep};
 ghost use Rattle.cutter_moves.specs.Steps.{playing, laying, Lends, Walks, Makes, Decides, Stepped, SteppedOn};
 use crate::ahead::diagonal_of;
 use crate::enemies::enemy_at;
 use border::move_to_border;
 use capture::MAX_COMP;
+use capture::close_by_sweeps;
 use capture::close_cut;
 use cutter_level::at_start;
 use cutter_rules::DOWN;
@@ -227,6 +229,38 @@ pub fn step_player(c: Cutter) -> Cutter
     out.trailing = to.trailing;
     out.dead = to.dead;
     out
+}
+
+// One movement step whose cut is closed by sweeps.
+pub fn step_by_sweeps(c: Cutter) -> Cutter
+    requires { ⌜ WellFormed c ⌝ }
+    ensures { λ r. ⌜ r ≡ sweptStep c ⌝ }
+{
+    let mut out = c;
+    let enemies = c.enemies;
+    let to = step_on(
+        &mut out.grid,
+        enemies,
+        c.count,
+        c.px,
+        c.py,
+        c.dx,
+        c.dy,
+        c.trailing,
+        c.dead,
+    );
+    if to.closes {
+        let herd = close_by_sweeps(&mut out.grid, enemies, c.count, MAX_COMP as u16);
+        let end = move_to_border(&out.grid, to.at);
+        let left = herd.enemies;
+        out.enemies = left;
+        out.count = herd.count;
+        out.trailing = false;
+        out.px = end.at % CW;
+        out.py = end.at / CW;
+        return out;
+    }
+    step_player(c)
 }
 
 fn off_line(k: u8) -> u8

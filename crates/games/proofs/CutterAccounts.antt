@@ -13,9 +13,9 @@ use Rattle.cutter_keeps.specs.Steps.{Accounts}
 use Rattle.cutter_keeps.proofs.Changes.{kept-self}
 use Rattle.cutter_keeps.proofs.Accounts.{kept-accounts, accounts-then}
 use Rattle.cutter.specs.Calls.{roundCall, levelCall}
-use Rattle.games.specs.CutterCalls.{CutterCall, Round, Level, Direction, Step, Tick, Respawn, Report, Begin, Pass, PassMarks, Picture, Question, Play, called, after, goesOn, sum, claims, loses}
+use Rattle.games.specs.CutterCalls.{CutterCall, Round, Level, Direction, Step, StepBySweeps, Tick, Respawn, Report, Begin, Pass, PassMarks, Picture, Question, Play, called, after, goesOn, sum, claims, loses}
 use Rattle.games.specs.CutterAccounts.{CutterAccounts, CutterFormed}
-use Rattle.games.proofs.CutterCalls.{round-fresh, call-fresh, round-refused, level-refused, direction-called, step-called, tick-called, respawn-called, pass-called, pass-starts, passAt-formed, direction-formed, step-formed, tick-formed, respawn-formed}
+use Rattle.games.proofs.CutterCalls.{round-fresh, call-fresh, round-refused, level-refused, direction-called, step-called, sweeps-called, tick-called, respawn-called, pass-called, pass-starts, passAt-formed, direction-formed, step-formed, sweeps-formed, tick-formed, respawn-formed}
 
 called-fresh : (p : Play) (k : CutterCall) → called p k .starts ≡ true → Fresh (called p k .play .game)
 unfolding called
@@ -25,6 +25,7 @@ called-fresh p (Round draws) e =
 called-fresh p (Level draws) e = call-fresh (p .game) draws (eqb-true (levelCall (p .game) draws .refusal) NONE e)
 called-fresh p (Direction dir) e = absurd (false≢true e)
 called-fresh p Step e = absurd (false≢true e)
+called-fresh p StepBySweeps e = absurd (false≢true e)
 called-fresh p Tick e = absurd (false≢true e)
 called-fresh p Respawn e = absurd (false≢true e)
 called-fresh p Report e = absurd (false≢true e)
@@ -41,6 +42,7 @@ called-accounts p (Round draws) w e = kept-accounts (round-refused (p .game) w d
 called-accounts p (Level draws) w e = kept-accounts (level-refused (p .game) w draws e)
 called-accounts p (Direction dir) w e = kept-accounts (direction-called (p .game) w dir)
 called-accounts p Step w e = step-called (p .game) w
+called-accounts p StepBySweeps w e = sweeps-called (p .game) w
 called-accounts p Tick w e = kept-accounts (tick-called (p .game) w)
 called-accounts p Respawn w e = respawn-called (p .game) w
 called-accounts p Report w e = kept-accounts (kept-self w)
@@ -75,6 +77,7 @@ cutter-formed =
       level = λ c draws e. call-fresh c draws e .formed;
       direction = direction-formed;
       step = step-formed;
+      sweeps = sweeps-formed;
       tick = tick-formed;
       respawn = respawn-formed;
       pass = λ c keys draws time pace. passAt-formed c keys draws time (pace .first) (pace .second);

@@ -32,7 +32,8 @@ use Rattle.cutter_pass.specs.Accounts.{passClaims, passLoses}
 use Rattle.cutter_pass.proofs.Refused.{pass-state, pass-level}
 use Rattle.cutter_pass.proofs.Accounts.{pass-accounts, pass-fresh, pass-formed}
 use Rattle.cutter.specs.declared.calls.CutterAnswer.{CutterAnswer}
-use Rattle.cutter.specs.Calls.{refused, answered, zeros, FIRST-LEVEL, roundCall, levelCall, directionCall, stepCall, enemiesCall, respawnCall}
+use Rattle.cutter.specs.Calls.{refused, answered, zeros, FIRST-LEVEL, roundCall, levelCall, directionCall, stepCall, sweepsCall, enemiesCall, respawnCall}
+use Rattle.games.proofs.Engines.{sweeps-call}
 use Rattle.games.specs.CutterAccounts.{Formed}
 
 -- ---- a fresh level
@@ -88,6 +89,9 @@ module _ (c : Cutter) (w : WellFormed c) where
   pub step-called : Accounts c (stepCall c .game) (stepClaims c) (stepLoses c)
   unfolding stepCall
   step-called = subst (λ (a : CutterAnswer). Accounts c (a .game) (stepClaims c) (stepLoses c)) (sym (plays (stepped c))) (step-accounts c w)
+
+  pub sweeps-called : Accounts c (sweepsCall c .game) (stepClaims c) (stepLoses c)
+  sweeps-called = subst (λ (a : CutterAnswer). Accounts c (a .game) (stepClaims c) (stepLoses c)) (sym (sweeps-call c)) step-called
 
   pub tick-called : Kept c (enemiesCall c .game)
   unfolding enemiesCall
@@ -166,6 +170,9 @@ module _ (c : Cutter) where
   pub step-formed : Formed (stepCall c)
   unfolding stepCall
   step-formed = call-formed c (stepped c) (refusalOf c) (λ e. step-accounts c (accepted c e) .formed)
+
+  pub sweeps-formed : Formed (sweepsCall c)
+  sweeps-formed = subst Formed (sym (sweeps-call c)) step-formed
 
   pub tick-formed : Formed (enemiesCall c)
   unfolding enemiesCall

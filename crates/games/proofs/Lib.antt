@@ -3,6 +3,7 @@ pub mod MineAccounts
 pub mod Tight
 pub mod Cut
 pub mod Cases
+pub mod Engines
 pub mod CutterCalls
 pub mod CutterAccounts
 pub mod WrongPorts

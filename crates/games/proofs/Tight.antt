@@ -10,7 +10,7 @@ use Rattle.mine.specs.Turn.{passOf}
 use Rattle.mine.specs.Picture.{pictureOf}
 use Rattle.mine.specs.Question.{whoAt}
 use Rattle.cutter_pass.specs.Pass as CP
-use Rattle.cutter.specs.Calls.{roundCall, levelCall, directionCall, stepCall, enemiesCall, respawnCall, reportCall}
+use Rattle.cutter.specs.Calls.{roundCall, levelCall, directionCall, stepCall, sweepsCall, enemiesCall, respawnCall, reportCall}
 use Rattle.cutter.specs.Turn as T
 use Rattle.cutter.specs.Picture as P
 use Rattle.cutter.specs.Question as C
@@ -40,6 +40,7 @@ cutter-tight =
       new-level = λ c draws. determined (levelCall c draws);
       direction = λ c dir. determined (directionCall c dir);
       step-player = λ c. determined (stepCall c);
+      step-by-sweeps = λ c. determined (sweepsCall c);
       step-enemies = λ c. determined (enemiesCall c);
       respawn = λ c. determined (respawnCall c);
       pass = λ c keys draws time pace. determined (T.passOf c keys draws time pace);

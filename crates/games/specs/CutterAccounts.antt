@@ -11,7 +11,7 @@ use Rattle.cutter_keeps.specs.Kept.{claimedIn, Fresh}
 use Rattle.cutter_keeps.specs.Steps.{Accounts}
 use Rattle.cutter_pass.specs.Pass.{passAt}
 use Rattle.cutter.specs.declared.calls.CutterAnswer.{CutterAnswer}
-use Rattle.cutter.specs.Calls.{roundCall, levelCall, directionCall, stepCall, enemiesCall, respawnCall}
+use Rattle.cutter.specs.Calls.{roundCall, levelCall, directionCall, stepCall, sweepsCall, enemiesCall, respawnCall}
 use Rattle.cutter.specs.Turn.{passOf}
 use Rattle.games.specs.CutterCalls.{CutterCall, Play, called, after, goesOn, claims, loses}
 
@@ -35,6 +35,7 @@ pub record CutterFormed : Type 0 where
   pub level : (c : Cutter) (draws : List ℕ) → Formed (levelCall c draws)
   pub direction : (c : Cutter) (dir : ℕ) → Formed (directionCall c dir)
   pub step : (c : Cutter) → Formed (stepCall c)
+  pub sweeps : (c : Cutter) → Formed (sweepsCall c)
   pub tick : (c : Cutter) → Formed (enemiesCall c)
   pub respawn : (c : Cutter) → Formed (respawnCall c)
   pub pass : (c : Cutter) (keys draws : List ℕ) (time : ℕ) (pace : Pace) → passOf c keys draws time pace .0 .refusal ≡ NONE → WellFormed (passOf c keys draws time pace .0 .game)

@@ -12,14 +12,14 @@ use Rattle.cutter_keeps.specs.Steps.{stepClaims, stepLoses}
 use Rattle.cutter_pass.specs.declared.CutterPassed.{CutterPassed}
 use Rattle.cutter_pass.specs.Pass.{levelDue, passAt}
 use Rattle.cutter_pass.specs.Accounts.{passClaims, passLoses}
-use Rattle.cutter.specs.Calls.{roundCall, levelCall, directionCall, stepCall, enemiesCall, respawnCall}
+use Rattle.cutter.specs.Calls.{roundCall, levelCall, directionCall, stepCall, sweepsCall, enemiesCall, respawnCall}
 use Rattle.cutter.specs.Turn.{passOf}
 
 -- a pass has the play's own record lent, or any marks as numbers; `Begin` starts the record with a reading
 pub data CutterCall : Type 0 where
   Round Level : (draws : List ℕ) → CutterCall
   Direction : (dir : ℕ) → CutterCall
-  Step Tick Respawn Report : CutterCall
+  Step StepBySweeps Tick Respawn Report : CutterCall
   Begin : (time : ℕ) → CutterCall
   Pass : (keys draws : List ℕ) (time : ℕ) → CutterCall
   PassMarks : (keys draws : List ℕ) (time first second : ℕ) → CutterCall
@@ -68,6 +68,8 @@ called p (Level draws) = starting p (levelCall (p .game) draws .refusal) (levelC
 called p (Direction dir) = only (playing p (directionCall (p .game) dir .game))
 called p Step =
     record { play = playing p (stepCall (p .game) .game); starts = false; claims = stepClaims (p .game); loses = stepLoses (p .game) }
+called p StepBySweeps =
+    record { play = playing p (sweepsCall (p .game) .game); starts = false; claims = stepClaims (p .game); loses = stepLoses (p .game) }
 called p Tick = only (playing p (enemiesCall (p .game) .game))
 called p Respawn = only (playing p (respawnCall (p .game) .game))
 called p Report = only p

@@ -5,3 +5,4 @@ pub mod Cases
 pub mod CutterCalls
 pub mod CutterAccounts
 pub mod WrongPorts
+pub mod Engines

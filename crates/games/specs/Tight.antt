@@ -17,7 +17,7 @@ use Rattle.mine.specs.Question.{whoAt}
 use Rattle.ground.specs.declared.Mover.{Mover}
 use Rattle.cutter_state.specs.declared.Cutter.{Cutter}
 use Rattle.cutter_pass.specs.Pass as CP
-use Rattle.cutter.specs.Calls.{roundCall, levelCall, directionCall, stepCall, enemiesCall, respawnCall, reportCall}
+use Rattle.cutter.specs.Calls.{roundCall, levelCall, directionCall, stepCall, sweepsCall, enemiesCall, respawnCall, reportCall}
 use Rattle.cutter.specs.Turn as T
 use Rattle.cutter.specs.Picture as P
 use Rattle.cutter.specs.Question as C
@@ -44,6 +44,7 @@ pub record CutterTight : Type 0 where
   pub new-level : (c : Cutter) (draws : List ℕ) → Determined (levelCall c draws)
   pub direction : (c : Cutter) (dir : ℕ) → Determined (directionCall c dir)
   pub step-player : (c : Cutter) → Determined (stepCall c)
+  pub step-by-sweeps : (c : Cutter) → Determined (sweepsCall c)
   pub step-enemies : (c : Cutter) → Determined (enemiesCall c)
   pub respawn : (c : Cutter) → Determined (respawnCall c)
   pub pass : (c : Cutter) (keys draws : List ℕ) (time : ℕ) (pace : Pace) → Determined (T.passOf c keys draws time pace)

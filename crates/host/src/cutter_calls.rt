@@ -17,7 +17,7 @@ ghost use mathlib.Core.Path.{_≡_};
 ghost use lib.ListN.{take};
 ghost use Rattle.refusal.specs.Refusal.{refusedOr};
 ghost use Rattle.cutter_pass.specs.Pass.{passAt};
-ghost use Rattle.cutter.specs.Calls.{roundCall, levelCall, directionCall, stepCall, enemiesCall, respawnCall, reportCall, unreported};
+ghost use Rattle.cutter.specs.Calls.{roundCall, levelCall, directionCall, stepCall, sweepsCall, enemiesCall, respawnCall, reportCall, unreported};
 ghost use Rattle.cutter.specs.Picture.{pictureOf};
 ghost use Rattle.cutter.specs.Question.{whoAt};
 ghost use Rattle.host_state.specs.Cutter.{flagsOf, gameOf};
@@ -124,6 +124,21 @@ pub extern "C" fn sumbadger_cutter_step_player(h: HostCutter) -> HostCutterAnswe
         };
     }
     answer_out(cutter::step_player(cutter_game(h)))
+}
+
+// One step in the direction; a cut is closed by sweeps.
+#[no_mangle]
+pub extern "C" fn sumbadger_cutter_step_by_sweeps(h: HostCutter) -> HostCutterAnswer
+    ensures { λ r. ⌜ r ≡ hosted h (sweepsCall (gameOf h)) ⌝ }
+{
+    let no = cutter_flags(h);
+    if no != refusal::NONE {
+        return HostCutterAnswer {
+            refusal: no,
+            game: h,
+        };
+    }
+    answer_out(cutter::step_by_sweeps(cutter_game(h)))
 }
 
 // One creature tick.

@@ -13,6 +13,7 @@ pub use cutter_calls::sumbadger_cutter_new_round;
 pub use cutter_calls::sumbadger_cutter_pass;
 pub use cutter_calls::sumbadger_cutter_render;
 pub use cutter_calls::sumbadger_cutter_respawn;
+pub use cutter_calls::sumbadger_cutter_step_by_sweeps;
 pub use cutter_calls::sumbadger_cutter_step_enemies;
 pub use cutter_calls::sumbadger_cutter_step_player;
 pub use cutter_calls::sumbadger_cutter_who;

@@ -1,4 +1,4 @@
--- Traces: the calls of Block Cutter, 18 to 25 and 32.
+-- Traces: the calls of Block Cutter, 18 to 25, 29 and 32.
 use mathlib.Core.Bool.{cond}
 use mathlib.Core.List.{List, _++_}
 use Prim.Native.Nat.{ℕ, _+_}
@@ -10,7 +10,7 @@ use Rattle.pace.specs.Pace.{started}
 use Rattle.cutter_state.specs.declared.Cutter.{Cutter}
 use Rattle.cutter_pass.specs.Pass.{passAt, marksOf}
 use Rattle.cutter_pass.specs.declared.CutterTurn.{CutterTurn}
-use Rattle.cutter.specs.Calls.{levelCall, directionCall, stepCall, enemiesCall, respawnCall, reportCall}
+use Rattle.cutter.specs.Calls.{levelCall, directionCall, stepCall, sweepsCall, enemiesCall, respawnCall, reportCall}
 use Rattle.cutter.specs.Picture.{pictureOf}
 use Rattle.cutter.specs.declared.calls.CutterAnswer.{CutterAnswer}
 use Rattle.cutter.specs.declared.calls.Ground.{Ground}
@@ -72,6 +72,10 @@ module _ (h : Head) (args current state result : List ℕ) where
   unfoldable pub cutterReported : Cutter → Part
   cutterReported c = exactly 0 args (ground (reportCall c))
 
+  -- 29
+  unfoldable pub cutterSwept : Cutter → Pace → Part
+  cutterSwept c p = exactly 0 args (answered p (sweepsCall c))
+
   -- 32: reading, 4 bytes
   unfoldable pub cutterStarted : Cutter → Part
   cutterStarted c = exactly MARK args (cutterTold h current state result 0 0 c (started (wordAt MARK 0 args)))
@@ -87,5 +91,6 @@ module _ (h : Head) (args current state result : List ℕ) where
       (cond (eqb (h .call) 23) (cutterPassed c p)
       (cond (eqb (h .call) 24) (cutterPictured c)
       (cond (eqb (h .call) 25) (cutterReported c)
+      (cond (eqb (h .call) 29) (cutterSwept c p)
       (cond (eqb (h .call) 32) (cutterStarted c)
-      (onEither h args current state result p)))))))))
+      (onEither h args current state result p))))))))))

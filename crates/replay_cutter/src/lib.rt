@@ -20,7 +20,7 @@ ghost use mathlib.Core.Path.{_≡_};
 ghost use lib.ListN.{length};
 ghost use Rattle.trace.specs.Cutters.{CUTTER, cutterOf};
 ghost use Rattle.replay_shared.specs.Shared.{marksAt, cutterTold};
-ghost use Rattle.replay_cutter.specs.Cutters.{cutterDirected, cutterStepped, cutterTicked, cutterRespawned, cutterLevelled, cutterPassed, cutterPictured, cutterReported, cutterStarted};
+ghost use Rattle.replay_cutter.specs.Cutters.{cutterDirected, cutterStepped, cutterSwept, cutterTicked, cutterRespawned, cutterLevelled, cutterPassed, cutterPictured, cutterReported, cutterStarted};
 ghost use Rattle.replay_cutter.specs.Cutters.{onCutter};
 
 // Numbers of the calls.
@@ -39,6 +39,8 @@ const PASS: u8 = 23;
 const PICTURE: u8 = 24;
 
 const REPORT: u8 = 25;
+
+const STEP_BY_SWEEPS: u8 = 29;
 
 // A reading and a number of keys, which stand before the keys of a pass.
 const BEFORE_KEYS: usize = 6;
@@ -93,6 +95,24 @@ fn stepped(
         return Part::Unread;
     }
     let a = cutter::step_player(c);
+    cutter_answered(h, a, p, current, state, result)
+}
+
+fn swept(
+    h: Head,
+    c: Cutter,
+    p: Pace,
+    args: &[u8],
+    current: &[u8],
+    state: &[u8],
+    result: &[u8],
+) -> Part
+    ensures { λ r. ⌜ r ≡ cutterSwept h (now (args .entry)) (now (current .entry)) (now (state .entry)) (now (result .entry)) c p ⌝ }
+{
+    if args.len() != 0 {
+        return Part::Unread;
+    }
+    let a = cutter::step_by_sweeps(c);
     cutter_answered(h, a, p, current, state, result)
 }
 
@@ -245,6 +265,7 @@ pub fn on_cutter(h: Head, args: &[u8], current: &[u8], state: &[u8], result: &[u
         PASS => passed(h, c, p, args, current, state, result),
         PICTURE => pictured(h, c, args, current, state, result),
         REPORT => reported(h, c, args, current, state, result),
+        STEP_BY_SWEEPS => swept(h, c, p, args, current, state, result),
         START => started(h, c, args, current, state, result),
         _ => on_either(h, p, args, current, state, result),
     }

@@ -4,7 +4,7 @@ use mathlib.Core.Path.{ap, ap₂, _∙_}
 use borrow.Author.Tests.{ne-eqb}
 use Rattle.pace.specs.declared.Pace.{Pace}
 use Rattle.cutter_state.specs.declared.Cutter.{Cutter}
-use Rattle.replay_cutter.specs.Cutters.{cutterDirected, cutterStepped, cutterTicked, cutterRespawned, cutterLevelled, cutterPassed, cutterPictured, cutterReported, cutterStarted}
+use Rattle.replay_cutter.specs.Cutters.{cutterDirected, cutterStepped, cutterSwept, cutterTicked, cutterRespawned, cutterLevelled, cutterPassed, cutterPictured, cutterReported, cutterStarted}
 use Rattle.replay_shared.specs.Either.{onEither}
 use Rattle.replay_cutter.specs.Cutters.{onCutter}
 use Rattle.replay_shared.proofs.Numbered.{tested}
@@ -40,6 +40,9 @@ pictured-requires c κs = search needs
 
 reported-requires : tie.Need-reported-requires
 reported-requires c κs = search needs
+
+swept-requires : tie.Need-swept-requires
+swept-requires c κs = search needs
 
 started-requires : tie.Need-started-requires
 started-requires c κs = search needs
@@ -117,15 +120,23 @@ returns-9 c =
     let k1 = c .before .before .before in
     let k2 = k1 .before .before .before .before .before in
     let a = k2 .args in
-    simp (tested (c .before .match .keys9) 18, tested (c .before .match .keys9) 19, tested (c .before .match .keys9) 20, tested (c .before .match .keys9) 21, tested (c .before .match .keys9) 22, tested (c .before .match .keys9) 23, tested (c .before .match .keys9) 24, tested (c .before .match .keys9) 25, tested (c .before .match .keys9) 32) (c .«started» .ensures ∙ ap (cutterStarted (a .h) (a .args .now) (a .current .now) (a .state .now) (a .result .now)) (k1 .«cutter-of» .ensures))
+    simp (tested (c .before .match .keys9) 18, tested (c .before .match .keys9) 19, tested (c .before .match .keys9) 20, tested (c .before .match .keys9) 21, tested (c .before .match .keys9) 22, tested (c .before .match .keys9) 23, tested (c .before .match .keys9) 24, tested (c .before .match .keys9) 25, tested (c .before .match .keys9) 29) (c .«swept» .ensures ∙ ap₂ (λ (g : Cutter) (p : Pace). cutterSwept (a .h) (a .args .now) (a .current .now) (a .state .now) (a .result .now) g p) (k1 .«cutter-of» .ensures) (c .before .before .«marks-of» .ensures))
 
 returns-10 : tie.Need-returns-10
 unfolding onCutter
 returns-10 c =
+    let k1 = c .before .before .before in
+    let k2 = k1 .before .before .before .before .before in
+    let a = k2 .args in
+    simp (tested (c .before .match .keys10) 18, tested (c .before .match .keys10) 19, tested (c .before .match .keys10) 20, tested (c .before .match .keys10) 21, tested (c .before .match .keys10) 22, tested (c .before .match .keys10) 23, tested (c .before .match .keys10) 24, tested (c .before .match .keys10) 25, tested (c .before .match .keys10) 29, tested (c .before .match .keys10) 32) (c .«started» .ensures ∙ ap (cutterStarted (a .h) (a .args .now) (a .current .now) (a .state .now) (a .result .now)) (k1 .«cutter-of» .ensures))
+
+returns-11 : tie.Need-returns-11
+unfolding onCutter
+returns-11 c =
     let k1 = c .before .before .before .before .before .before .before .before in
     let a = k1 .args in
     let n = c .before .match .rest in
-    simp (ne-eqb _ _ (n .0 .0 .0 .0 .0 .0 .0 .0 .1), ne-eqb _ _ (n .0 .0 .0 .0 .0 .0 .0 .1), ne-eqb _ _ (n .0 .0 .0 .0 .0 .0 .1), ne-eqb _ _ (n .0 .0 .0 .0 .0 .1), ne-eqb _ _ (n .0 .0 .0 .0 .1), ne-eqb _ _ (n .0 .0 .0 .1), ne-eqb _ _ (n .0 .0 .1), ne-eqb _ _ (n .0 .1), ne-eqb _ _ (n .1)) (c .«on-either» .ensures ∙ ap (onEither (a .h) (a .args .now) (a .current .now) (a .state .now) (a .result .now)) (c .before .before .«marks-of» .ensures))
+    simp (ne-eqb _ _ (n .0 .0 .0 .0 .0 .0 .0 .0 .0 .1), ne-eqb _ _ (n .0 .0 .0 .0 .0 .0 .0 .0 .1), ne-eqb _ _ (n .0 .0 .0 .0 .0 .0 .0 .1), ne-eqb _ _ (n .0 .0 .0 .0 .0 .0 .1), ne-eqb _ _ (n .0 .0 .0 .0 .0 .1), ne-eqb _ _ (n .0 .0 .0 .0 .1), ne-eqb _ _ (n .0 .0 .0 .1), ne-eqb _ _ (n .0 .0 .1), ne-eqb _ _ (n .0 .1), ne-eqb _ _ (n .1)) (c .«on-either» .ensures ∙ ap (onEither (a .h) (a .args .now) (a .current .now) (a .state .now) (a .result .now)) (c .before .before .«marks-of» .ensures))
 
 pub on-cutter-spec : {M : Type 1} → statement M
 on-cutter-spec =
@@ -141,6 +152,7 @@ on-cutter-spec =
     passed-requires
     pictured-requires
     reported-requires
+    swept-requires
     started-requires
     on-either-requires
     returns
@@ -152,4 +164,5 @@ on-cutter-spec =
     returns-7
     returns-8
     returns-9
-    returns-10)
+    returns-10
+    returns-11)

@@ -1,0 +1,28 @@
+-- `cutter::step_by_sweeps` meets its contract. Assumes nothing.
+use mathlib.Core.Path.{ap, sym, _∙_}
+use borrow.Author.Needs.{needs}
+use Rattle.refusal.proofs.Calls.{turned-away, let-in}
+use Rattle.cutter_state.proofs.Facts.{accepted}
+use Rattle.cutter_keeps.specs.Sweeps.{sweptStep}
+use Rattle.cutter.specs.Calls.{refused, answered, sweepsCall}
+use Rattle.cutter.proofs.calls.step_by_sweeps.Statement.{statement}
+use Rattle.cutter.proofs.calls.step_by_sweeps.Tie as tie
+
+check-requires : tie.Need-check-requires
+check-requires c κs = search needs
+
+returns : tie.Need-returns
+unfolding sweepsCall
+returns c = let s = c .before .before .args .c in turned-away (refused s) (answered (sweptStep s)) (c .before .check .ensures) (c .if1 .taken)
+
+step-by-sweeps-requires : tie.Need-step-by-sweeps-requires
+step-by-sweeps-requires c κs = accepted _ (sym (c .before .check .ensures) ∙ c .if1 .left)
+
+returns-2 : tie.Need-returns-2
+unfolding sweepsCall
+returns-2 c =
+    let s = c .before .before .before .args .c in
+    let-in (refused s) (answered (sweptStep s)) (c .before .before .check .ensures) (ap answered (c .«step-by-sweeps» .ensures)) (c .before .if1 .left)
+
+pub step-by-sweeps-spec : {M : Type 1} → statement M
+step-by-sweeps-spec = tie.close (tie.spec check-requires returns step-by-sweeps-requires returns-2)

@@ -1,0 +1,69 @@
+use mathlib.Core.Path.{ap, sym, _∙_}
+use borrow.Author.Needs.{needs}
+use mir.Syntax.{w8}
+use mir.Val.{SFits}
+use Rattle.capture.specs.Steps.{cutOf}
+use Rattle.cutter_keeps.proofs.Sweeps.{swept-step}
+use Rattle.cutter_moves.proofs.Applied.{stays}
+use Rattle.cutter_moves.proofs.Step.{on-grid, shut-closes, shut-standing, shut-step}
+use Rattle.cutter_moves.proofs.player.step_by_sweeps.Statement.{statement}
+use Rattle.cutter_moves.proofs.player.step_by_sweeps.Tie as tie
+
+-- what the parameter's type tells
+signed : (s : tie.Start) → SFits w8 (s .args .c .dx) × SFits w8 (s .args .c .dy)
+signed s = (search needs, search needs)
+
+step-on-requires : tie.Need-step-on-requires
+step-on-requires c κs =
+    let s = c .before .before .before .before in
+    let h = on-grid (s .args .c) (s .pre) in
+    record { cells = s .pre .cells; across = h .across; down = h .down; few = s .pre .few }
+
+cast-close-by-sweeps : tie.Need-cast-close-by-sweeps
+cast-close-by-sweeps c = search needs
+
+close-by-sweeps-requires : tie.Need-close-by-sweeps-requires
+close-by-sweeps-requires c κs =
+    let d = c .before .before in
+    let s = d .before .before .before .before .before in
+    shut-closes (s .args .c) (s .pre) _ (d .step-on .result) _ (d .step-on .ensures) (stays (s .args .c) (signed s .0) (signed s .1)) (c .before .if1 .taken)
+
+move-to-border-requires : tie.Need-move-to-border-requires
+move-to-border-requires c κs =
+    let k = c .before .before in
+    let d = k .before .before .before in
+    let s = d .before .before .before .before .before in
+    let e = stays (s .args .c) (signed s .0) (signed s .1) in
+    shut-standing (s .args .c) (s .pre) _ (d .step-on .result) _ (d .step-on .ensures) e (k .before .before .if1 .taken)
+    (cutOf (k .close-by-sweeps .last .0) (k .close-by-sweeps .result)) (k .close-by-sweeps .ensures)
+
+returns : tie.Need-returns
+returns c =
+    let w = c .before .before .before in
+    let k = w .before .before .before in
+    let d = k .before .before .before in
+    let s = d .before .before .before .before .before in
+    let e = stays (s .args .c) (signed s .0) (signed s .1) in
+    shut-step (s .args .c) (s .pre) _ (d .step-on .result) _ (d .step-on .ensures) e (k .before .before .if1 .taken)
+    (cutOf (k .close-by-sweeps .last .0) (k .close-by-sweeps .result)) (k .close-by-sweeps .ensures) (w .move-to-border .result .at) (ap (λ r. r .at) (w .move-to-border .ensures))
+    ∙ sym (swept-step (s .args .c) (s .pre .cells))
+
+step-player-requires : tie.Need-step-player-requires
+step-player-requires c κs = search needs
+
+returns-2 : tie.Need-returns-2
+returns-2 c =
+    let s = c .before .before .before .before .before .before .before in
+    c .step-player .ensures ∙ sym (swept-step (s .args .c) (s .pre .cells))
+
+pub step-by-sweeps-spec : {M : Type 1} → statement M
+step-by-sweeps-spec =
+    tie.close
+    (tie.spec
+    step-on-requires
+    cast-close-by-sweeps
+    close-by-sweeps-requires
+    move-to-border-requires
+    returns
+    step-player-requires
+    returns-2)
