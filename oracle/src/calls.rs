@@ -1,5 +1,5 @@
-//! Document 01's public calls on a current state: refused by [`check`], answered by the
-//! original. The question, the page, the ground report and the start of the record are not
+//! The public calls of documents 01 and 02 on a current state: refused by [`check`], answered by
+//! the original. The question, the page, the ground report and the start of the record are not
 //! in the original and are written from document 01.
 //!
 //! [`check`]: crate::check
@@ -25,6 +25,7 @@ pub enum Call {
     NewRound(Vec<u8>),
     Direction(u8),
     Step,
+    StepBySweeps,
     StepEnemies,
     Respawn,
     NewLevel(Vec<u8>),
@@ -112,7 +113,8 @@ fn on_mine(m: &mut Mine, pace: &mut Pace, call: &Call) -> Option<Outcome> {
 fn on_cutter(c: &mut Cutter, pace: &mut Pace, call: &Call) -> Option<Outcome> {
     Some(match call {
         Call::Direction(dir) => Outcome::done(cutter::direction(c, *dir)),
-        Call::Step => Outcome::done(cutter::step_player(c)),
+        // Both ways of closing a cut give the same: tests/sweeps.rs.
+        Call::Step | Call::StepBySweeps => Outcome::done(cutter::step_player(c)),
         Call::StepEnemies => Outcome::done(cutter::step_enemies(c)),
         Call::Respawn => Outcome::done(cutter::respawn(c)),
         Call::NewLevel(draws) => Outcome::done(cutter::new_level(c, draws)),

@@ -103,6 +103,7 @@ fn call_of(state: &State, name: &str, n: &Numbers) -> Call {
         ("cutter_new_level", _) => Call::NewLevel(list),
         ("cutter_direction", _) => Call::Direction(list[0]),
         ("cutter_step_player", _) => Call::Step,
+        ("cutter_step_by_sweeps", _) => Call::StepBySweeps,
         ("cutter_step_enemies", _) => Call::StepEnemies,
         ("cutter_respawn", _) => Call::Respawn,
         ("cutter_pass", _) => {

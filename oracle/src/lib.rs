@@ -3,7 +3,7 @@
 //! [`games`] holds the original module over [`stand_ins`] for the crates it leans on.
 //! [`calls`] are document 01's public calls on it, with refusals of this crate's own in
 //! [`check`]. [`trace`] writes calls with their answers, [`replay`] reads them back.
-//! What document 02 adds is written from it, and compared with the original: [`nearest`].
+//! What document 02 adds is written from it, and compared with the original: [`nearest`], [`sweeps`].
 
 pub mod bytes;
 pub mod calls;
@@ -18,4 +18,6 @@ pub mod replay;
 pub mod rng;
 pub mod stand_ins;
 pub mod state;
+pub mod sweeps;
 pub mod trace;
+pub mod trainer;

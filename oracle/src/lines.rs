@@ -1,5 +1,5 @@
-//! What the programs `mines` and `cuts` do with their input, byte by byte, and the picture
-//! as text.
+//! What the programs `mines`, `cuts` and `trainer` do with their input, byte by byte, and the
+//! picture as text.
 
 use std::env;
 use std::io::{self, Read, Write};
@@ -7,6 +7,7 @@ use std::io::{self, Read, Write};
 use crate::games::{cutter, mine};
 use crate::stand_ins::catcard_app::screen::{FRAME, HEIGHT, WIDTH};
 use crate::state::{BLACK, CLAIMED, Cutter, DOWN, LEFT, LINE, Mine, RIGHT, UP};
+use crate::trainer::lesson;
 
 /// Parts scripts that each run from the start; no script uses it.
 pub const SEPARATOR: u8 = b'|';
@@ -18,6 +19,7 @@ const CUTS_DRAWS: [u8; 4] = [9, 9, 1, 1];
 pub enum Program {
     Mines,
     Cuts,
+    Trainer,
 }
 
 impl Program {
@@ -26,6 +28,9 @@ impl Program {
         match self {
             Program::Mines => play(mine_start(), script, mine_byte, mine_line).1,
             Program::Cuts => play(cuts_start(), script, cuts_byte, cuts_line).1,
+            Program::Trainer => {
+                play((cuts_start(), String::new()), script, trainer_byte, trainer_line).1
+            }
         }
     }
 
@@ -39,7 +44,7 @@ impl Program {
     pub fn frame(self, script: &[u8]) -> [u8; FRAME] {
         match self {
             Program::Mines => mine::render(&mines_end(script)).0,
-            Program::Cuts => cutter::render(&cuts_end(script)),
+            Program::Cuts | Program::Trainer => cutter::render(&cuts_end(script)),
         }
     }
 }
@@ -122,6 +127,18 @@ pub fn cuts_byte(c: &mut Cutter, byte: u8) -> bool {
 fn cuts_line(c: &Cutter) -> String {
     let [black, claimed, line] = [BLACK, CLAIMED, LINE].map(|code| c.count_of(code));
     format!("{} {} {black} {claimed} {line} {} {}\n", c.px, c.py, c.count, u8::from(c.dead))
+}
+
+/// A game, and what its last byte taught.
+type Taught = (Cutter, String);
+
+fn trainer_byte((c, taught): &mut Taught, byte: u8) -> bool {
+    *taught = if byte == b's' { lesson(c) } else { String::new() };
+    cuts_byte(c, byte)
+}
+
+fn trainer_line((c, taught): &Taught) -> String {
+    [taught.as_str(), &cuts_line(c)].concat()
 }
 
 /// A frame as text: 32 lines of 128 columns, two rows of pixels to a line.

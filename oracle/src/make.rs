@@ -3,6 +3,7 @@
 
 pub mod battery;
 pub mod corners;
+pub mod cutter_closings;
 pub mod cutter_corners;
 pub mod cutter_grounds;
 pub mod cutter_play;

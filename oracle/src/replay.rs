@@ -244,6 +244,7 @@ fn call(number: u8, arguments: &[u8]) -> Option<Call> {
         24 => Call::CutterPicture(u16::take(from)?),
         25 => Call::Ground,
         26 => Call::CutterWho { x: usize::take(from)?, y: usize::take(from)?, list: rest(from)? },
+        29 => Call::StepBySweeps,
         32 => Call::Start(u32::take(from)?),
         33 => Call::Page { number: usize::take(from)?, frame: rest(from)? },
         _ => return None,

@@ -44,6 +44,14 @@ impl Trace {
         outcome
     }
 
+    /// Makes the last step, which began at this state, by sweeps as well.
+    pub fn again_by_sweeps(&mut self, before: State) {
+        if self.state != before {
+            self.set(before);
+        }
+        self.call(Call::StepBySweeps);
+    }
+
     fn entry(&mut self, head: [u8; 3], arguments: &[u8], state: &[u8], result: &[u8]) {
         let length = |part: &[u8]| u16::try_from(part.len()).expect("a part below 64 KiB");
         head.put(&mut self.bytes);
@@ -78,6 +86,7 @@ fn number(call: &Call) -> u8 {
         Call::CutterPicture(_) => 24,
         Call::Ground => 25,
         Call::CutterWho { .. } => 26,
+        Call::StepBySweeps => 29,
         Call::Start(_) => 32,
         Call::Page { .. } => 33,
     }
@@ -87,7 +96,7 @@ fn arguments(call: &Call) -> Vec<u8> {
     let mut out = Vec::new();
     match call {
         Call::Load | Call::Gravity | Call::MoveEnemies => {}
-        Call::Step | Call::StepEnemies | Call::Respawn | Call::Ground => {}
+        Call::Step | Call::StepBySweeps | Call::StepEnemies | Call::Respawn | Call::Ground => {}
         Call::Move(dir) | Call::Direction(dir) => dir.put(&mut out),
         Call::MinePass { time, keys } => {
             time.put(&mut out);

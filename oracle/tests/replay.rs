@@ -121,7 +121,7 @@ fn a_trace_cut_short_cannot_be_read() {
 fn an_unknown_or_foreign_call_cannot_be_read() {
     let start = sequences::start().bytes;
     let entry = |call: u8| [call, 0, 0, 0, 0, 0, 0, 0, 0, 0, 0, 0];
-    for call in [8, 16, 19, 27, 34, 255] {
+    for call in [8, 16, 19, 27, 29, 34, 255] {
         let trace = [start.clone(), entry(call).to_vec()].concat();
         let first = report(&trace).first.expect("a difference");
         assert_eq!((first.entry, first.offset, first.part), (1, 862, Part::Unreadable));

@@ -6,12 +6,13 @@ use oracle::games::{Answer, cutter};
 use oracle::make::{corners, sequences};
 use oracle::replay::{Seen, replay, replay_seen};
 use oracle::state::*;
+use oracle::sweeps::{Closing, Fate, Region, closes_at, closing};
 
 const SEED: u64 = 1;
 const SEQUENCES: usize = 800;
 const MEGABYTE: usize = 1_000_000;
 /// Every call of the format.
-const CALLS: [u8; 19] = [1, 2, 3, 4, 5, 6, 7, 17, 18, 19, 20, 21, 22, 23, 24, 25, 26, 32, 33];
+const CALLS: [u8; 20] = [1, 2, 3, 4, 5, 6, 7, 17, 18, 19, 20, 21, 22, 23, 24, 25, 26, 29, 32, 33];
 
 fn random(seed: u64, sequences: usize) -> Vec<u8> {
     let mut trace = sequences::start();
@@ -55,8 +56,19 @@ fn the_corners_have_everything_in_a_megabyte() {
     for answer in 0..=4 {
         assert!(headers.iter().any(|h| h[2] == answer), "no answer {answer}");
     }
-    let report = replay(bytes.as_slice()).expect("a trace in memory");
+    let mut tally = Tally::default();
+    let report = replay_seen(bytes.as_slice(), |seen| tally.see(&seen)).expect("in memory");
     assert_eq!((report.calls, report.differ), (corners.trace.calls, 0));
+    assert!(tally.swept >= 10, "{tally:?}");
+}
+
+/// What `replay` reads and is held to.
+#[test]
+fn the_stored_trace_is_the_corners() {
+    let trace = corners::corners().trace;
+    let verdict = format!("{} calls, 0 differ\n", trace.calls);
+    assert!(trace.bytes == include_bytes!("../../crates/replay/stdin"), "not as stored");
+    assert_eq!(verdict, include_str!("../../crates/replay/stdout"));
 }
 
 #[test]
@@ -118,6 +130,7 @@ struct Tally {
     wins: usize,
     deaths: usize,
     closings: usize,
+    swept: usize,
     many_regions: usize,
     ties: usize,
     walks: usize,
@@ -175,6 +188,10 @@ impl Tally {
     fn see_cutter(&mut self, seen: &Seen, before: &Cutter, after: &Cutter) {
         match seen.call {
             Call::Step if before.trailing && !after.trailing => self.see_closing(before, after),
+            Call::StepBySweeps if before.trailing && !after.trailing => {
+                self.swept += 1;
+                closed_by_sweeps(before, after);
+            }
             Call::StepEnemies => self.breaches += usize::from(!before.dead && after.dead),
             Call::Respawn => self.respawns += 1,
             Call::CutterPass { .. } => {
@@ -188,71 +205,24 @@ impl Tally {
 
     fn see_closing(&mut self, before: &Cutter, after: &Cutter) {
         self.closings += 1;
-        let (nx, ny) =
-            (before.px as isize + before.dx as isize, before.py as isize + before.dy as isize);
-        self.walks += usize::from((after.px as isize, after.py as isize) != (nx, ny));
-        let regions = regions(&before.grid);
+        let entered = closes_at(before).expect("a step that closes");
+        self.walks += usize::from((after.px, after.py) != entered);
+        let regions = closed_by_sweeps(before, after);
         self.many_regions += usize::from(regions.len() > 48);
-        let key = |cells: &Vec<usize>| {
-            let on = |e: &&Mover| cells.contains(&(usize::from(e.y) * CW + usize::from(e.x)));
-            (before.enemies[..before.count].iter().filter(on).count(), cells.len())
-        };
-        let keys: Vec<_> = regions.iter().take(48).map(key).collect();
-        let best = keys.iter().max();
-        self.ties += usize::from(keys.iter().filter(|key| Some(*key) == best).count() > 1);
-        closing_is_as_written(&regions, &keys, before, after);
+        let key = |region: &Region| (region.creatures, region.cells.len());
+        let best = regions.iter().find(|region| region.fate == Fate::Kept).map(key);
+        let as_good = regions.iter().take(48).filter(|region| Some(key(region)) == best);
+        self.ties += usize::from(as_good.count() > 1);
     }
 }
 
-/// Document 01's closing: the first region with the best key is kept, other counted ones are
-/// claimed, the rest stay black, and only creatures of the kept one remain, in order.
-fn closing_is_as_written(
-    regions: &[Vec<usize>],
-    keys: &[(usize, usize)],
-    before: &Cutter,
-    after: &Cutter,
-) {
-    let kept = keys.iter().position(|key| Some(key) == keys.iter().max());
-    let mut grid = before.grid.map(|code| if code == LINE { CLAIMED } else { code });
-    for (_, cells) in regions.iter().take(48).enumerate().filter(|(i, _)| Some(*i) != kept) {
-        cells.iter().for_each(|&cell| grid[cell] = CLAIMED);
-    }
-    assert_eq!(after.grid, grid);
-    let stays = |e: &&Mover| {
-        kept.is_some_and(|i| regions[i].contains(&(usize::from(e.y) * CW + usize::from(e.x))))
-    };
-    let left: Vec<Mover> = before.enemies[..before.count].iter().filter(stays).copied().collect();
-    assert_eq!(after.enemies[..after.count], left);
+/// Document 01's closing, found by sweeps: the same grid, the same creatures in the same order.
+fn closed_by_sweeps(before: &Cutter, after: &Cutter) -> Vec<Region> {
+    let Closing { regions, grid, movers, .. } = closing(before);
+    assert!(after.grid == grid, "another grid");
+    assert_eq!(after.enemies[..after.count], movers);
     assert_eq!((after.dx, after.dy), (before.dx, before.dy));
     assert!(!grid.contains(&BLACK) || cutter::on_border(after, after.px, after.py));
-}
-
-/// Largest sets of black cells joined by four-way steps, by their earliest cell: numbers
-/// lowered to the least among neighbours until nothing changes.
-fn regions(grid: &[u8; CN]) -> Vec<Vec<usize>> {
-    let mut least: Vec<usize> = (0..CN).collect();
-    let mut changed = true;
-    while changed {
-        changed = false;
-        let cells: Vec<usize> = (0..CN).chain((0..CN).rev()).collect();
-        for cell in cells.into_iter().filter(|&cell| grid[cell] == BLACK) {
-            for dir in [UP, RIGHT, DOWN, LEFT] {
-                let Some((x, y)) = beside(cell % CW, cell / CW, dir, CW, CH) else { continue };
-                let near = y * CW + x;
-                if grid[near] == BLACK && least[near] < least[cell] {
-                    least[cell] = least[near];
-                    changed = true;
-                }
-            }
-        }
-    }
-    let mut regions: Vec<Vec<usize>> = Vec::new();
-    for cell in (0..CN).filter(|&cell| grid[cell] == BLACK) {
-        match regions.iter_mut().find(|region| region[0] == least[cell]) {
-            Some(region) => region.push(cell),
-            None => regions.push(vec![cell]),
-        }
-    }
     regions
 }
 
@@ -273,5 +243,6 @@ fn random_traces_are_wide_and_well_formed() {
     assert!([closings, many_regions, ties, walks, respawns].iter().all(|&n| n > 10), "{tally:?}");
     let Tally { levels, overs, breaches, refusals, .. } = tally;
     assert!([levels, overs, breaches].iter().all(|&n| n > 20), "{tally:?}");
+    assert!(tally.swept >= closings, "{tally:?}");
     assert!(refusals.iter().all(|&n| n > 20), "{tally:?}");
 }

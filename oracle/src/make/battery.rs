@@ -40,6 +40,7 @@ pub fn cutter(c: &Cutter, pace: &Pace, picture: u16) -> Vec<Call> {
         Call::CutterPass { time, keys: vec![8], draws },
         Call::Direction(RIGHT),
         Call::StepEnemies,
+        Call::StepBySweeps,
         Call::Step,
         Call::Respawn,
         Call::NewLevel(level),

@@ -43,6 +43,14 @@ impl Corners {
         self.paced(name, Game::Cutter(Box::new(c.clone())), Pace::default(), calls);
     }
 
+    /// A step from this state, and again by sweeps.
+    pub fn step_both_ways(&mut self, name: &str, c: &Cutter) {
+        self.cutter(name, c, Vec::new());
+        let before = self.trace.state().clone();
+        self.go_on(vec![Call::Step]);
+        self.trace.again_by_sweeps(before);
+    }
+
     pub fn go_on(&mut self, calls: Vec<Call>) {
         for call in calls {
             self.trace.call(call);

@@ -26,6 +26,32 @@ pub fn chequers(number: usize) -> Cutter {
     c.line(&[(32, 1)]).at((32, 1)).heading(UP)
 }
 
+/// One step before a closing that leaves 930 regions, each black cell one.
+pub fn chequerboard() -> Cutter {
+    let mut c = chequers(0);
+    for i in (0..INTERIOR).filter(|i| (i % 62 + i / 62) % 2 == 0) {
+        c = c.black(1 + i % 62, 1 + i / 62);
+    }
+    c
+}
+
+/// One step before a closing that leaves one region: a corridor to and fro across the ground, or
+/// up and down, half of it against the way of the sweeps.
+pub fn snake(upright: bool) -> Cutter {
+    let mut c = chequers(0);
+    let (turns, length) = if upright { (31, 28) } else { (14, 62) };
+    for turn in 0..turns {
+        // The last cell on the way leads to the next turn.
+        let end = if turn % 2 == 0 { length - 1 } else { 0 };
+        let link = (turn + 1 < turns).then_some((2 * turn + 1, end));
+        for (across, along) in (0..length).map(|along| (2 * turn, along)).chain(link) {
+            let (x, y) = if upright { (across, along) } else { (along, across) };
+            c = c.black(1 + x, 3 + y);
+        }
+    }
+    c
+}
+
 /// One step before the closing of a zigzag over so many double rows.
 pub fn zigzagged(rows: usize) -> Cutter {
     let mut c = fresh().at((1, 0));
