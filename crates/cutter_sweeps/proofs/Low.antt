@@ -90,7 +90,7 @@ owns-low : (g : List ℕ) → length g ≡ CN → Low g (owns g)
 unfolding owns labelled.owns
 owns-low g long = labelled.owns-low g long
 
-sweeps-low : {g L : List ℕ} → length g ≡ CN → Sweeps g L → Low g L
+pub sweeps-low : {g L : List ℕ} → length g ≡ CN → Sweeps g L → Low g L
 sweeps-low {g} long begun = owns-low g long
 sweeps-low long (again s) = sweep-low long (sweeps-low long s)
 

@@ -16,7 +16,8 @@ use Rattle.ground.specs.Cells.{CN, cellAt, leftOf, rightOf, upOf, downOf}
 use Rattle.joined.specs.Joined.{Black}
 use Rattle.joined.proofs.Labels.{total}
 use Rattle.cutter_sweeps.specs.Sweeps.{ownOf, owns, lower, low, lowered, sweep, Sweeps, begun, again}
-use Rattle.cutter_sweeps.specs.Table.{Numbers, changes, Swept}
+use Rattle.cutter_sweeps.specs.Trainer.{changes}
+use Rattle.cutter_sweeps.specs.Table.{Numbers, Swept}
 use Rattle.cutter_sweeps.proofs.Low.{low-le, lowered-in, lowered-same, total-set}
 
 changes-none : (l : List ℕ) → changes l l ≡ 0

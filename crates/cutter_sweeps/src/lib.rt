@@ -3,7 +3,8 @@ use ground::CB_BLACK;
 use ground::CN;
 ghost use mathlib.Core.Path.{_≡_};
 ghost use Rattle.cutter_sweeps.specs.Sweeps.{ownOf, owns, lower, low, Settled};
-ghost use Rattle.cutter_sweeps.specs.Table.{Numbers, Lowest, Swept};
+ghost use Rattle.cutter_sweeps.specs.Trainer.{numbersLeft};
+ghost use Rattle.cutter_sweeps.specs.Table.{Numbers, Lowest, Swept, Reached};
 
 fn own(cell: u8, number: u16) -> u16
     ensures { λ r. ⌜ r ≡ ownOf cell number ⌝ }
@@ -85,4 +86,25 @@ pub fn settle(grid: &[u8; CN], nums: &mut [u16; CN])
     while 0 < changed {
         changed = sweep_once(grid, nums);
     }
+}
+
+// How many different numbers stand on black cells.
+pub fn numbers_left(grid: &[u8; CN], nums: &[u16; CN]) -> u16
+    requires { ⌜ Reached (now grid) (now nums) ⌝ }
+    ensures { λ r. ⌜ r ≡ numbersLeft (now (grid .entry)) (now (nums .entry)) ⌝ }
+{
+    let mut met = [0u8; CN];
+    let mut n: u16 = 0;
+    let mut i: usize = CN;
+    while 0 < i {
+        i -= 1;
+        if grid[i] == CB_BLACK {
+            let v = nums[i] as usize;
+            if met[v] == 0 {
+                met[v] = 1;
+                n += 1;
+            }
+        }
+    }
+    n
 }

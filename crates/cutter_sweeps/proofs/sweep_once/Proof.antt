@@ -1,7 +1,7 @@
 use borrow.Author.Needs.{needs}
 use mathlib.Core.Logic.{⊎-elim}
 use mathlib.Core.Path.{_≡_, sym, _∙_}
-use Prim.Native.Nat.{_-_}
+use Prim.Native.Nat.{_-_, _<_}
 use native.Mathlib.Omega.{arith}
 use lib.ListN.{getD}
 use denote.Ref.{now}
@@ -26,7 +26,7 @@ element-copy-out-if1 c = search needs
 lowest-requires : tie.Need-lowest-requires Inv-loop μ-loop
 lowest-requires c κs =
     let a = c .before .before .before .before in
-    record { numbers = record { cells = a .before .pre .cells; len = a .loop .inv .len }; inside = c .before .before .before .loop-test .taken }
+    record { numbers = record { cells = a .before .pre .cells; len = a .loop .inv .len }; inside = omega (arith, c .before .before .before .loop-test) }
 
 mul-if2 : tie.Need-mul-if2 Inv-loop μ-loop
 mul-if2 c = search needs
@@ -55,7 +55,7 @@ loop-again c =
     let g = now (a .before .args .grid) in
     let L = a .loop .nums in
     let i = a .loop .at in
-    let h = c .before .before .loop-test .taken in
+    let h : i < CN = omega (arith, c .before .before .loop-test) in
     let at : getD L i 0 ≡ getD L i CN = getD-default L i 0 CN (omega (arith, a .loop .inv .len)) in
     let gat : getD g i CB-FILLED ≡ getD g i 0 = getD-default g i CB-FILLED 0 (omega (arith, a .before .pre)) in
     ⊎-elim
