@@ -133,6 +133,8 @@ static void play_cutter(const line *l) {
         gave_cutter(sumbadger_cutter_new_level(cutter, l->low, l->count));
     } else if (is(l, "cutter_direction")) {
         gave_cutter(sumbadger_cutter_direction(cutter, l->low[0]));
+    } else if (is(l, "cutter_step_by_sweeps")) {
+        gave_cutter(sumbadger_cutter_step_by_sweeps(cutter));
     } else if (is(l, "cutter_step_player")) {
         gave_cutter(sumbadger_cutter_step_player(cutter));
     } else if (is(l, "cutter_step_enemies")) {
