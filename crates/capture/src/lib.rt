@@ -48,7 +48,7 @@ fn off_line(cell: u8) -> u8
 }
 
 // The line becomes claimed.
-fn claim_line(grid: &mut [u8; CN])
+pub fn claim_line(grid: &mut [u8; CN])
     requires { ⌜ length (now grid) ≡ CN ⌝ }
     ensures { λ _. ⌜ now (grid .exit) ≡ claimLine (now (grid .entry)) ⌝ }
 {
