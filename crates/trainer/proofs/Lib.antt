@@ -1,1 +1,2 @@
 pub mod Sweeping
+pub mod Creatures

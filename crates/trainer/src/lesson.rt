@@ -8,11 +8,12 @@ use ground::MAX_ENEMIES;
 use ground::Mover;
 use libc::STDOUT_FILENO;
 ghost use mathlib.Core.Path.{_≡_};
-ghost use lib.ListN.{length, getD};
+ghost use lib.ListN.{length, getD, take};
 ghost use Rattle.laws.specs.Lists.{tally};
 ghost use Rattle.ground.specs.Cells.{CN};
 ghost use Rattle.cutter_sweeps.specs.Sweeps.{Settled};
 ghost use Rattle.cutter_sweeps.specs.Table.{Numbers};
+ghost use Rattle.trainer.specs.Regions.{onNumber};
 
 fn say(text: &[u8]) {
     io::write_all(STDOUT_FILENO, text);
@@ -75,6 +76,7 @@ fn number_at(nums: &[u16; CN], at: usize) -> u16
 // How many creatures stand on cells with a number.
 fn creatures_on(nums: &[u16; CN], enemies: [Mover; MAX_ENEMIES], count: usize, number: u16) -> u16
     requires { ⌜ length (now nums) ≡ CN ⌝ }
+    ensures { λ r. ⌜ r ≡ onNumber (now (nums .entry)) number (take count enemies) ⌝ }
 {
     let mut n: u16 = 0;
     let mut i: usize = 0;

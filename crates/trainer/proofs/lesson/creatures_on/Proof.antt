@@ -1,20 +1,31 @@
--- `trainer::creatures_on` is safe and ends. Assumes nothing.
+-- `trainer::creatures_on` meets its contract. Assumes nothing.
 use borrow.Author.Needs.{needs}
+use mathlib.Core.Bool.{Bool, _&&_}
 use mathlib.Core.Logic.{⊎-elim}
-use Prim.Native.Nat.{_-_, _≤_}
+use mathlib.Core.Path.{_≡_, refl, sym, ap, _∙_}
+use Prim.Native.Nat.{ℕ, _-_, _≤_}
 use native.Mathlib.Omega.{arith}
-use Rattle.ground.specs.Cells.{MAX-ENEMIES}
+use lib.Dec.{eqb, ltb}
+use lib.ListN.{length, getD, take, length-take}
+use lib.Seq.{take-all}
+use denote.Ref.{now}
+use Rattle.laws.specs.Lists.{bit}
+use Rattle.laws.proofs.Lists.{mapped}
+use Rattle.ground.specs.Cells.{CN, MAX-ENEMIES, cellOf}
+use Rattle.closing.specs.Closing.{blank}
+use Rattle.trainer.proofs.Creatures.{count-slot}
+use Rattle.trainer.specs.Regions.{onNumber}
 use Rattle.trainer.proofs.lesson.creatures_on.Statement.{statement}
 use Rattle.trainer.proofs.lesson.creatures_on.Tie as tie
 
 abbrev Inv-loop : tie.InvT-loop
-Inv-loop nums count number enemies n₀ i₀ n i = n ≤ i
+Inv-loop nums count number enemies n₀ i₀ n i = (n ≤ i) × (n ≡ onNumber nums number (take i (take count enemies)))
 
 abbrev μ-loop : tie.MeasureT-loop
 μ-loop nums count number enemies n₀ i₀ n i = MAX-ENEMIES - i
 
 loop-holds : tie.Need-loop-holds Inv-loop μ-loop
-loop-holds c = omega arith
+loop-holds c = (omega arith, refl)
 
 mul-e : tie.Need-mul-e Inv-loop μ-loop
 mul-e c = search needs
@@ -38,10 +49,26 @@ loop-less : tie.Need-loop-less Inv-loop μ-loop
 loop-less c = search needs
 
 loop-again : tie.Need-loop-again Inv-loop μ-loop
-loop-again c = ⊎-elim (λ w. omega (arith, w)) (λ w. omega (arith, w)) (c .if1 .came)
+loop-again c =
+    let a = c .before .before .before .before .before in
+    let s = a .before .args in
+    let L = now (s .nums) in
+    let l : length (s .t2) ≡ MAX-ENEMIES = search (needs, mapped) in
+    let m = getD (s .t2) (a .loop .i) blank in
+    let t = count-slot (λ e. eqb (getD L (cellOf e) CN) (s .number)) (s .t2) (s .count) (a .loop .i) blank (omega (arith, c .before .before .before .before .loop-test)) in
+    let e : c .before .number-at .result ≡ getD L (cellOf m) CN = c .before .number-at .ensures ∙ ap (λ (x : ℕ). getD L x CN) (c .before .before .cell-of .ensures) in
+    let test : ℕ → Bool = λ x. ltb (a .loop .i) (s .count) && eqb x (s .number) in
+    ⊎-elim
+    (λ w. let b : bit (test (getD L (cellOf m) CN)) ≡ 1 = ap bit (sym (ap test e) ∙ w .0 .taken) in (omega (arith, w .1), w .1 ∙ omega (arith, t, a .loop .inv .1)))
+    (λ w. let b : bit (test (getD L (cellOf m) CN)) ≡ 0 = ap bit (sym (ap test e) ∙ w .0 .left) in (omega (arith, w .1), w .1 ∙ omega (arith, t, a .loop .inv .1)))
+    (c .if1 .came)
 
 returns : tie.Need-returns Inv-loop μ-loop
-returns c = search needs
+returns c =
+    let a = c .before in
+    let s = a .before .args in
+    let l : length (s .t2) ≡ MAX-ENEMIES = search (needs, mapped) in
+    a .loop .inv .1 ∙ ap (onNumber (now (s .nums)) (s .number)) (take-all (a .loop .i) (take (s .count) (s .t2)) (omega (arith, c .loop-test, length-take (s .count) (s .t2))))
 
 pub creatures-on-spec : {M : Type 1} → statement M
 creatures-on-spec =

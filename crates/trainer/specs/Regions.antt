@@ -1,0 +1,12 @@
+-- What is told of a region besides its cells.
+use mathlib.Core.List.{List}
+use Prim.Native.Nat.{ℕ}
+use lib.Dec.{eqb}
+use lib.ListN.{getD}
+use Rattle.laws.specs.Lists.{count}
+use Rattle.ground.specs.Cells.{CN, cellOf}
+use Rattle.ground.specs.declared.Mover.{Mover}
+
+-- the creatures that stand on cells with the number k
+abbrev pub onNumber : List ℕ → ℕ → List Mover → ℕ
+onNumber L k es = count (λ m. eqb (getD L (cellOf m) CN) k) es
