@@ -36,6 +36,7 @@ RULE(Mine, rule_mine_gravity)
 RULE(Mine, rule_mine_tick)
 RULE(Cutter, copy_cutter)
 RULE(Cutter, rule_cutter_step)
+RULE(Cutter, rule_cutter_step_by_sweeps)
 RULE(Cutter, rule_cutter_tick)
 RULE(Cutter, rule_cutter_respawn)
 
@@ -114,6 +115,17 @@ void *rule_cutter_level(Cutter *out, Cutter in, const u8 *draws, usize n);
 void by_rule_cutter_level(const Cutter *in, const u8 *draws, usize n, Cutter *out) {
     rule_cutter_level(out, *in, draws, n);
 }
+
+typedef struct {
+    usize words[2168 / 8];
+} Answer;
+
+#define CALL(name)                                                                                 \
+    void *name(Answer *out, Cutter in);                                                            \
+    void by_##name(const Cutter *in, Answer *out) { name(out, *in); }
+
+CALL(call_cutter_step)
+CALL(call_cutter_step_by_sweeps)
 
 void *call_cutter_pass(Cutter *out, Cutter in, const u8 *keys, usize n, const u8 *draws, usize k,
                        u32 time, u32 first, u32 second);

@@ -44,6 +44,14 @@ pub fn rows(table: &Table) {
     step("closing a middle cut", Aim::Times(1.0), &states::middle());
     step("closing with 63 pockets and a large region", Aim::Times(1.0), &states::pockets());
     step("closing with 400 regions of a cell", Aim::Times(1.0), &states::chequers(400));
+    let swept = |what: &str, states: &[Cutter]| {
+        rule(table, what, Aim::None, states, Held::step_player, ours::cutter_step_by_sweeps);
+    };
+    swept("closing on a fresh ground, by 3 sweeps", &states::fresh_cut());
+    swept("closing a middle cut, by 2 sweeps", &states::middle());
+    swept("closing with a snake, by 429 sweeps", &states::snake());
+    step("closing on a fresh ground", Aim::Times(1.0), &states::fresh_cut());
+    step("closing with a snake", Aim::Times(1.0), &states::snake());
     walk(table);
     rule(table, "respawn", Aim::None, &states::laying(), Held::respawn, ours::cutter_respawn);
     fresh_level(table, 1);

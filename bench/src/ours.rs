@@ -13,6 +13,13 @@ pub struct Ground {
     pub share: u16,
 }
 
+/// What a Cutter call answers.
+#[repr(C)]
+pub struct Answer {
+    pub refusal: u8,
+    pub game: Cutter,
+}
+
 /// Cutter's creatures after a tick, and whether one met the line.
 #[repr(C)]
 #[derive(Clone)]
@@ -42,6 +49,9 @@ calls! {
     cutter_copy: by_copy_cutter(c: &Cutter, out: &mut Cutter);
     cutter_check: by_check_cutter(c: &Cutter) -> u8;
     cutter_step: by_rule_cutter_step(c: &Cutter, out: &mut Cutter);
+    cutter_step_by_sweeps: by_rule_cutter_step_by_sweeps(c: &Cutter, out: &mut Cutter);
+    cutter_call_step: by_call_cutter_step(c: &Cutter, out: &mut Answer);
+    cutter_call_step_by_sweeps: by_call_cutter_step_by_sweeps(c: &Cutter, out: &mut Answer);
     cutter_tick: by_rule_cutter_tick(c: &Cutter, out: &mut Cutter);
     cutter_tick_on: by_rule_cutter_tick_on(grid: &[u8; CN], enemies: &[Mover; MOVERS], count: usize, out: &mut Moved);
     cutter_respawn: by_rule_cutter_respawn(c: &Cutter, out: &mut Cutter);

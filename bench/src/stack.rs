@@ -4,6 +4,7 @@ use std::thread;
 
 use oracle::state::Cutter;
 
+use crate::ours::Answer;
 use crate::{ours, states};
 
 const PAINT: u8 = 165;
@@ -32,11 +33,11 @@ fn used(call: impl FnOnce()) -> Used {
     Used { deep: top - deepest, written: (bottom..top - own).filter(touched).count() }
 }
 
-type Call = fn(&Cutter, &mut Cutter);
+type Call = fn(&Cutter, &mut Answer);
 
 fn on_thread(state: Cutter, call: Call) -> Used {
     let run = move || {
-        let mut out = state.clone();
+        let mut out = Answer { refusal: 0, game: state.clone() };
         used(|| call(&state, &mut out))
     };
     thread::Builder::new().stack_size(STACK).spawn(run).expect("a thread").join().expect("a call")
@@ -45,10 +46,12 @@ fn on_thread(state: Cutter, call: Call) -> Used {
 pub fn rows() {
     println!("| Cutter call | stack below it, bytes | of them written |");
     println!("|---|---|---|");
-    let calls: [(&str, Cutter, Call); 4] = [
-        ("copied in and out", states::middle().remove(0), ours::cutter_copy),
-        ("step laying line", states::laying().remove(0), ours::cutter_step),
-        ("closing a middle cut", states::middle().remove(0), ours::cutter_step),
+    let calls: [(&str, Cutter, Call); 6] = [
+        ("copied in and out", states::middle().remove(0), |c, out| ours::cutter_copy(c, &mut out.game)),
+        ("step laying line", states::laying().remove(0), ours::cutter_call_step),
+        ("closing a middle cut", states::middle().remove(0), ours::cutter_call_step),
+        ("closing with 400 regions, and a walk", states::chequers(400).remove(0), ours::cutter_call_step),
+        ("closing a middle cut, by sweeps", states::middle().remove(0), ours::cutter_call_step_by_sweeps),
         ("the walk at its worst", states::far().remove(0), |c, _| _ = ours::cutter_walk(c)),
     ];
     for (what, state, call) in calls {

@@ -124,6 +124,16 @@ pub fn middle() -> Vec<Cutter> {
     (0..CUTS).map(|i| cutter_grounds::drawing(30).peopled(&FOUR[i % 3..])).collect()
 }
 
+/// One step before a closing that takes nothing but its line.
+pub fn fresh_cut() -> Vec<Cutter> {
+    vec![cutter_grounds::fresh().line(&[(32, 1)]).at((32, 1)).heading(UP); CUTS]
+}
+
+/// One step before a closing that leaves one corridor to and fro.
+pub fn snake() -> Vec<Cutter> {
+    vec![cutter_grounds::snake(false); CUTS]
+}
+
 /// One step before a closing that leaves this many regions of a cell each.
 pub fn chequers(number: usize) -> Vec<Cutter> {
     (0..CUTS).map(|i| cutter_grounds::chequers(number - i).peopled_in_order(number - i)).collect()

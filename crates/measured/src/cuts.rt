@@ -11,6 +11,7 @@ ghost use Rattle.cutter_state.specs.WellFormed.{WellFormed, refusalOf};
 ghost use Rattle.cutter_rules.specs.Level.{drawsOk, creaturesOf, freshLevel};
 ghost use Rattle.cutter_rules.specs.Step.{stepped, respawned};
 ghost use Rattle.cutter_rules.specs.Tick.{enemiesStepped};
+ghost use Rattle.cutter_keeps.specs.Sweeps.{sweptStep};
 ghost use Rattle.cutter_moves.specs.Moves.{OnGrid};
 ghost use Rattle.cutter_picture.specs.Picture.{Drawable, cutLit};
 
@@ -35,6 +36,14 @@ pub extern "C" fn rule_cutter_step(c: Cutter) -> Cutter
     ensures { λ r. ⌜ r ≡ stepped c ⌝ }
 {
     cutter_moves::step_player(c)
+}
+
+#[no_mangle]
+pub extern "C" fn rule_cutter_step_by_sweeps(c: Cutter) -> Cutter
+    requires { ⌜ WellFormed c ⌝ }
+    ensures { λ r. ⌜ r ≡ sweptStep c ⌝ }
+{
+    cutter_moves::step_by_sweeps(c)
 }
 
 #[no_mangle]

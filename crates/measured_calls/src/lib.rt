@@ -9,7 +9,7 @@ ghost use mathlib.Core.Path.{_≡_};
 ghost use Rattle.mine_pass.specs.Pass as MinePass;
 ghost use Rattle.mine.specs.Calls.{moveCall, gravityCall, tickCall};
 ghost use Rattle.cutter_pass.specs.Pass.{passAt};
-ghost use Rattle.cutter.specs.Calls.{stepCall, enemiesCall, reportCall};
+ghost use Rattle.cutter.specs.Calls.{stepCall, sweepsCall, enemiesCall, reportCall};
 
 #[no_mangle]
 pub extern "C" fn call_mine_pass(m: Mine, keys: &[u8], time: u32, first: u32, second: u32) -> Mine
@@ -67,6 +67,13 @@ pub extern "C" fn call_cutter_step(c: Cutter) -> CutterAnswer
     ensures { λ r. ⌜ r ≡ stepCall c ⌝ }
 {
     cutter::step_player(c)
+}
+
+#[no_mangle]
+pub extern "C" fn call_cutter_step_by_sweeps(c: Cutter) -> CutterAnswer
+    ensures { λ r. ⌜ r ≡ sweepsCall c ⌝ }
+{
+    cutter::step_by_sweeps(c)
 }
 
 #[no_mangle]
