@@ -47,11 +47,21 @@ pub fn rows() {
     println!("| Cutter call | stack below it, bytes | of them written |");
     println!("|---|---|---|");
     let calls: [(&str, Cutter, Call); 6] = [
-        ("copied in and out", states::middle().remove(0), |c, out| ours::cutter_copy(c, &mut out.game)),
+        ("copied in and out", states::middle().remove(0), |c, out| {
+            ours::cutter_copy(c, &mut out.game)
+        }),
         ("step laying line", states::laying().remove(0), ours::cutter_call_step),
         ("closing a middle cut", states::middle().remove(0), ours::cutter_call_step),
-        ("closing with 400 regions, and a walk", states::chequers(400).remove(0), ours::cutter_call_step),
-        ("closing a middle cut, by sweeps", states::middle().remove(0), ours::cutter_call_step_by_sweeps),
+        (
+            "closing with 400 regions, and a walk",
+            states::chequers(400).remove(0),
+            ours::cutter_call_step,
+        ),
+        (
+            "closing a middle cut, by sweeps",
+            states::middle().remove(0),
+            ours::cutter_call_step_by_sweeps,
+        ),
         ("the walk at its worst", states::far().remove(0), |c, _| _ = ours::cutter_walk(c)),
     ];
     for (what, state, call) in calls {
