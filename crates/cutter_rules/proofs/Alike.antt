@@ -36,7 +36,7 @@ module _ (c : Cutter) where
 
     met-won : (f : Found) → Same (met f c t)
     unfolding met
-    met-won (At i) = refl
+    met-won (At i n) = refl
     met-won Nobody = cond-both Same (c .trailing) (trailingStep c t) (walkingStep c t) (λ e. trailing-won) (λ e. walking-won)
 
   pub step-won : Same (stepped c)

@@ -104,7 +104,7 @@ walkingStep c t =
 
 -- a creature there, dead
 unfoldable pub met : Found → Cutter → ℕ → Cutter
-met (At i) c t = killed c
+met (At i n) c t = killed c
 met Nobody c t = cond (c .trailing) (trailingStep c t) (walkingStep c t)
 
 -- no direction, nothing; off the grid, the direction clears

@@ -14,7 +14,7 @@ use Rattle.cutter_state.specs.State.{creatures, spare}
 use Rattle.cutter_state.specs.Change.{withCreatures, withDead}
 use Rattle.cutter_rules.specs.Ahead.{sideOf, verticalOf, diagonalOf}
 
--- the first creature at a cell, or nobody
+-- the first creature at a cell and how many are there, or nobody
 abbrev pub creatureAt : List Mover → ℕ → Found
 creatureAt es at = first (λ e. eqb (cellOf e) at) es
 

@@ -1,21 +1,23 @@
 -- Laws of the search for the first: a turn of a loop over a list, its end, and what is found. Assumes nothing.
 use mathlib.Core.Bool.{Bool, true, false, cond, not, _||_}
 use mathlib.Core.List.{List, [], _∷_}
-use mathlib.Core.Path.{_≡_, refl, sym, _∙_}
-use Prim.Native.Nat.{ℕ, suc, _+_, _<_, _≤_}
+use mathlib.Core.Path.{_≡_, refl, sym, ap, _∙_}
+use Prim.Native.Nat.{ℕ, zero, suc, _+_, _<_, _≤_}
+use native.Mathlib.Numerals.{add-one}
 use native.Mathlib.Omega.{arith}
-use lib.Dec.{T}
+use lib.Dec.{T, eqb}
 use lib.ListN.{length, getD, drop}
-use Rattle.laws.specs.Lists.{any}
+use borrow.Author.Tests.{ne-eqb}
+use Rattle.laws.specs.Lists.{any, count}
 use Rattle.laws.proofs.Lists.{drop-one}
-use Rattle.found.specs.First.{firstFrom, first, nobody}
+use Rattle.found.specs.First.{firstFrom, first, nobody, number, numbered}
 use Rattle.found.specs.declared.Found.{Found}
 use Rattle.found.specs.declared.Found.the-variants.{At, Nobody}
 
 -- A loop over a list: the first of what is left is R, the answer that is wanted.
 module _ {A : Type 0} (test : A → Bool) (l : List A) (i : ℕ) {R : Found} where
-  pub first-here : {x : A} → drop i l ≡ x ∷ drop (i + 1) l → firstFrom test i (drop i l) ≡ R → test x ≡ true → At i ≡ R
-  first-here h e t = rw (h, t) at e
+  pub first-here : {x : A} → drop i l ≡ x ∷ drop (i + 1) l → firstFrom test i (drop i l) ≡ R → test x ≡ true → At i (count test (drop i l)) ≡ R
+  first-here h e t = rw (h, t) (rw (h, t) at e)
 
   pub first-more : {x : A} → drop i l ≡ x ∷ drop (i + 1) l → firstFrom test i (drop i l) ≡ R → test x ≡ false → firstFrom test (i + 1) (drop (i + 1) l) ≡ R
   first-more h e t = rw (h, t) at e
@@ -23,33 +25,24 @@ module _ {A : Type 0} (test : A → Bool) (l : List A) (i : ℕ) {R : Found} whe
   pub first-none : drop i l ≡ [] → firstFrom test i (drop i l) ≡ R → Nobody ≡ R
   first-none h e = rw h at e
 
-  -- a turn of it, by what the test answered of the i-th
-  pub turn-here : (d : A) (b : Bool) → b ≡ test (getD l i d) → T b → i < length l → firstFrom test i (drop i l) ≡ R → At i ≡ R
-  turn-here d true t h less e = first-here (drop-one l i d less) e (sym t)
-  turn-here d false t h less e = absurd h
+pick-bound : (b : Bool) (k i c m n : ℕ) (r : Found) → (r ≡ At i m → i < k + 1 + n) → cond b (At k c) r ≡ At i m → i < k + suc n
+pick-bound true k i c m n r f e = let q : k ≡ i = cc in omega arith
+pick-bound false k i c m n r f e = omega (arith, f e)
 
-  pub turn-more : (d : A) (b : Bool) → b ≡ test (getD l i d) → T (not b) → i < length l → firstFrom test i (drop i l) ≡ R → firstFrom test (i + 1) (drop (i + 1) l) ≡ R
-  turn-more d true t h less e = absurd h
-  turn-more d false t h less e = first-more (drop-one l i d less) e (sym t)
-
-pick-bound : (b : Bool) (k i n : ℕ) (r : Found) → (r ≡ At i → i < k + 1 + n) → cond b (At k) r ≡ At i → i < k + suc n
-pick-bound true k i n r f e = let q : k ≡ i = cc in omega arith
-pick-bound false k i n r f e = omega (arith, f e)
-
-from-bound : {A : Type 0} (test : A → Bool) (k i : ℕ) (l : List A) → firstFrom test k l ≡ At i → i < k + length l
-from-bound test k i [] e = let z : _≡_ {A = ℕ} 0 1 = cc in omega arith
-from-bound test k i (a ∷ l) e = pick-bound (test a) k i (length l) (firstFrom test (k + 1) l) (from-bound test (k + 1) i l) e
+from-bound : {A : Type 0} (test : A → Bool) (k i m : ℕ) (l : List A) → firstFrom test k l ≡ At i m → i < k + length l
+from-bound test k i m [] e = let z : _≡_ {A = ℕ} 0 1 = cc in omega arith
+from-bound test k i m (a ∷ l) e = pick-bound (test a) k i (count test (a ∷ l)) m (length l) (firstFrom test (k + 1) l) (from-bound test (k + 1) i m l) e
 
 -- who is found is one of the list
-pub first-bound : {A : Type 0} (test : A → Bool) (i : ℕ) (l : List A) → first test l ≡ At i → i < length l
-first-bound test i l e = omega (arith, from-bound test 0 i l e)
+pub first-bound : {A : Type 0} (test : A → Bool) (i m : ℕ) (l : List A) → first test l ≡ At i m → i < length l
+first-bound test i m l e = omega (arith, from-bound test 0 i m l e)
 
 -- and has no number below the one that the search began with
-pub from-least : {A : Type 0} (test : A → Bool) (k i : ℕ) (l : List A) → firstFrom test k l ≡ At i → k ≤ i
-from-least test k i [] e = let z : _≡_ {A = ℕ} 0 1 = cc in omega arith
-from-least test k i (a ∷ l) e = go (test a) (from-least test (k + 1) i l) e
+pub from-least : {A : Type 0} (test : A → Bool) (k i m : ℕ) (l : List A) → firstFrom test k l ≡ At i m → k ≤ i
+from-least test k i m [] e = let z : _≡_ {A = ℕ} 0 1 = cc in omega arith
+from-least test k i m (a ∷ l) e = go (test a) (from-least test (k + 1) i m l) e
   where
-    go : (b : Bool) → (firstFrom test (k + 1) l ≡ At i → k + 1 ≤ i) → cond b (At k) (firstFrom test (k + 1) l) ≡ At i → k ≤ i
+    go : (b : Bool) → (firstFrom test (k + 1) l ≡ At i m → k + 1 ≤ i) → cond b (At k (count test (a ∷ l))) (firstFrom test (k + 1) l) ≡ At i m → k ≤ i
     go true f q = let z : k ≡ i = cc in omega arith
     go false f q = omega (arith, f q)
 
@@ -58,9 +51,57 @@ from-nobody : {A : Type 0} (test : A → Bool) (k : ℕ) (l : List A) → nobody
 from-nobody test k [] = refl
 from-nobody test k (a ∷ l) = go (test a) (from-nobody test (k + 1) l)
   where
-    go : (b : Bool) → nobody (firstFrom test (k + 1) l) ≡ not (any test l) → nobody (cond b (At k) (firstFrom test (k + 1) l)) ≡ not (b || any test l)
+    go : (b : Bool) → nobody (firstFrom test (k + 1) l) ≡ not (any test l) → nobody (cond b (At k (count test (a ∷ l))) (firstFrom test (k + 1) l)) ≡ not (b || any test l)
     go true e = refl
     go false e = e
 
 pub nobody-any : {A : Type 0} (test : A → Bool) (l : List A) → nobody (first test l) ≡ not (any test l)
 nobody-any test l = from-nobody test 0 l
+
+-- the number that is told is how many pass
+pub from-number : {A : Type 0} (test : A → Bool) (k : ℕ) (l : List A) → number (firstFrom test k l) ≡ count test l
+from-number test k [] = refl
+from-number test k (a ∷ l) = go (test a) (from-number test (k + 1) l)
+  where
+    go : (b : Bool) → number (firstFrom test (k + 1) l) ≡ count test l → number (cond b (At k (cond b (suc (count test l)) (count test l))) (firstFrom test (k + 1) l)) ≡ cond b (suc (count test l)) (count test l)
+    go true e = refl
+    go false e = e
+
+pub number-count : {A : Type 0} (test : A → Bool) (l : List A) → number (first test l) ≡ count test l
+number-count test l = from-number test 0 l
+
+-- nobody is told where that is zero, and only there
+from-zero : {A : Type 0} (test : A → Bool) (k : ℕ) (l : List A) → nobody (firstFrom test k l) ≡ eqb (count test l) 0
+from-zero test k [] = refl
+from-zero test k (a ∷ l) = go (test a) (from-zero test (k + 1) l)
+  where
+    go : (b : Bool) → nobody (firstFrom test (k + 1) l) ≡ eqb (count test l) 0 → nobody (cond b (At k (count test (a ∷ l))) (firstFrom test (k + 1) l)) ≡ eqb (cond b (suc (count test l)) (count test l)) 0
+    go true e = sym (ne-eqb (suc (count test l)) 0 (λ q. omega arith))
+    go false e = e
+
+pub nobody-zero : {A : Type 0} (test : A → Bool) (l : List A) → nobody (first test l) ≡ eqb (count test l) 0
+nobody-zero test l = from-zero test 0 l
+
+-- the answer of no zero, and its number
+pub numbered-some : (i n : ℕ) → (n ≡ 0 → ⊥) → numbered i n ≡ At i n
+numbered-some i zero h = absurd (h refl)
+numbered-some i (suc n) h = refl
+
+numbered-number : (i n : ℕ) → number (numbered i n) ≡ n
+numbered-number i zero = refl
+numbered-number i (suc n) = refl
+
+-- A loop over a list from its end: of what is left from i on, f is the first, and n pass.
+module _ {A : Type 0} (test : A → Bool) (l : List A) (i f n : ℕ) where
+  pub number-rest : numbered f n ≡ firstFrom test i (drop i l) → n ≡ count test (drop i l)
+  number-rest e = sym (numbered-number f n) ∙ ap number e ∙ from-number test i (drop i l)
+
+  -- a turn of it, by what the test answered of the one before
+  pub back-here : (d : A) (b : Bool) → b ≡ test (getD l i d) → T b → i < length l → numbered f n ≡ firstFrom test (i + 1) (drop (i + 1) l) → numbered i (n + 1) ≡ firstFrom test i (drop i l)
+  back-here d true t h less e =
+      rw (drop-one l i d less, ← t, add-one n) (ap (λ (k : ℕ). At i (suc k)) (sym (numbered-number f n) ∙ ap number e ∙ from-number test (i + 1) (drop (i + 1) l)))
+  back-here d false t h less e = absurd h
+
+  pub back-more : (d : A) (b : Bool) → b ≡ test (getD l i d) → T (not b) → i < length l → numbered f n ≡ firstFrom test (i + 1) (drop (i + 1) l) → numbered f n ≡ firstFrom test i (drop i l)
+  back-more d true t h less e = absurd h
+  back-more d false t h less e = rw (drop-one l i d less, ← t) e

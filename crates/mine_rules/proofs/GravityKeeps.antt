@@ -25,7 +25,7 @@ pub record Keeps (P : Mine → Type 0) : Type 0 where
   -- a boulder sets dead
   pub kills : (m : Mine) → P m → P (killed m)
   -- an object falls on the creature i, which goes
-  pub squashes : (m : Mine) (x y i : ℕ) → isObject (codeAt m x y) ≡ true → emptyAt (m .grid) x (y + 1) ≡ true → playerAt m x (y + 1) ≡ false → firstAt m x (y + 1) ≡ At i → P m → P (carried (without m i) x y x (y + 1))
+  pub squashes : (m : Mine) (x y i n : ℕ) → isObject (codeAt m x y) ≡ true → emptyAt (m .grid) x (y + 1) ≡ true → playerAt m x (y + 1) ≡ false → firstAt m x (y + 1) ≡ At i n → P m → P (carried (without m i) x y x (y + 1))
 
 is-free : (m : Mine) (x y : ℕ) → emptyAt (m .grid) x y ≡ true → playerAt m x y ≡ false → firstAt m x y ≡ Nobody → freeAt m x y ≡ true
 unfolding freeAt
@@ -48,8 +48,8 @@ module _ {P : Mine → Type 0} (k : Keeps P) (m : Mine) (x y : ℕ) (p : P m) wh
     over-found-keeps : emptyAt (m .grid) x (y + 1) ≡ true → playerAt m x (y + 1) ≡ false → (f : Found) → firstAt m x (y + 1) ≡ f → P (overFound m x y f)
     unfolding overCreature
     over-found-keeps e n Nobody q = k .moves m x y x (y + 1) o (is-free m x (y + 1) e n q) p
-    over-found-keeps e n (At i) q =
-        cond-both P (marked m x y) _ _ (λ _. k .squashes m x y i o e n q p) (λ _. k .rests m x y p)
+    over-found-keeps e n (At i j) q =
+        cond-both P (marked m x y) _ _ (λ _. k .squashes m x y i j o e n q p) (λ _. k .rests m x y p)
 
     over-empty-keeps : emptyAt (m .grid) x (y + 1) ≡ true → P (overEmpty m x y)
     unfolding overEmpty

@@ -67,5 +67,5 @@ sound-keeps =
       moves = λ m x y nx ny _ f s. sound-carried m x y nx ny (free-inside m nx ny f) (free-empty m nx ny f) s;
       collects = sound-collected;
       kills = sound-killed;
-      squashes = λ m x y i _ e _ _ s. sound-squashed m x y x (y + 1) i (empty-inside (m .grid) x (y + 1) e) (empty-code (m .grid) x (y + 1) e) s;
+      squashes = λ m x y i _ _ e _ _ s. sound-squashed m x y x (y + 1) i (empty-inside (m .grid) x (y + 1) e) (empty-code (m .grid) x (y + 1) e) s;
     }

@@ -51,7 +51,7 @@ overCreature m x y i = cond (marked m x y) (carried (without m i) x y x (y + 1))
 
 -- else it falls
 abbrev pub overFound : Mine → ℕ → ℕ → Found → Mine
-overFound m x y (At i) = overCreature m x y i
+overFound m x y (At i n) = overCreature m x y i
 overFound m x y Nobody = carried m x y x (y + 1)
 
 -- over empty

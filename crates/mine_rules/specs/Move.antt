@@ -43,7 +43,7 @@ met m d x y =
 
 -- a creature there: dead, no move
 abbrev pub meets : Mine → ℕ → ℕ → ℕ → Found → Mine
-meets m d x y (At i) = killed m
+meets m d x y (At i n) = killed m
 meets m d x y Nobody = met m d x y
 
 -- off the grid, nothing

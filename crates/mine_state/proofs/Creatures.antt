@@ -27,9 +27,9 @@ module _ (l : List Enemy) (i : ℕ) {R : Bool} {e : Enemy} (h : drop i l ≡ e �
   apart-fails t = rw (h, t) at q
 
 -- who is found is one of the creatures
-pub found-below : (m : Mine) (x y i : ℕ) → firstAt m x y ≡ At i → i < m .count
-found-below m x y i e =
-    let h = first-bound (standsAt x y) i (creatures m) e in
+pub found-below : (m : Mine) (x y i n : ℕ) → firstAt m x y ≡ At i n → i < m .count
+found-below m x y i n e =
+    let h = first-bound (standsAt x y) i n (creatures m) e in
     omega (arith, simp length-take at h)
 
 -- a creature that is right is on the map, and so is a slot that holds zeros

@@ -2,3 +2,4 @@ pub mod Creatures
 pub mod Cells
 pub mod Facts
 pub mod Cases
+pub mod Alone

@@ -91,7 +91,7 @@ onMap e = onGrid (e .x) (e .y) && leb (e .dir) 3
 abbrev pub allOnMap : List Enemy → Bool
 allOnMap es = all onMap es
 
--- the first creature at (x, y), or nobody
+-- the first creature at (x, y) and how many are there, or nobody
 abbrev pub firstAt : Mine → ℕ → ℕ → Found
 firstAt m x y = first (standsAt x y) (creatures m)
 

@@ -6,10 +6,11 @@ use Prim.Native.Nat.{ℕ, _≤_, _<_}
 use lib.Dec.{leb, eqb}
 use lib.ListN.{length, drop}
 use Rattle.laws.specs.Lists.{all, any}
+use Rattle.found.specs.First.{number}
 use Rattle.refusal.specs.Refusal.{CELLS, PLAYER, CREATURES, NUMBERS, unless, _then_}
 use Rattle.mine_state.specs.declared.Mine.{Mine}
 use Rattle.mine_state.specs.declared.Enemy.{Enemy}
-use Rattle.mine_state.specs.State.{W, H, AREA, MAX-ENEMIES, isCode, emptyAt, creatures, standsAt, allOnMap, purse}
+use Rattle.mine_state.specs.State.{W, H, AREA, MAX-ENEMIES, isCode, emptyAt, creatures, standsAt, firstAt, allOnMap, purse}
 
 -- 24 by 14 cells, codes 0 to 5; a falling mark per cell, free in value
 unfoldable pub cellsOk : Mine → Bool
@@ -80,3 +81,7 @@ pub record Sound (m : Mine) : Type 0 where
   pub placed : allOnMap (m .enemies) ≡ true
   pub home : (m .px < W) × (m .py < H)
   pub coins : purse m ≤ AREA
+
+-- the number at a cell of a well-formed state is never above 1
+abbrev pub Alone : Type 0
+Alone = (m : Mine) (x y : ℕ) → WellFormed m → number (firstAt m x y) ≤ 1
