@@ -102,7 +102,7 @@ module _ {c : Cutter} (w : WellFormed c) where
 
   met-stepped : (f : Found) → noDirection c ≡ false → t < CN → creatureAt (creatures c) t ≡ f → Stepped c (met f c t)
   unfolding met
-  met-stepped (At i) d h q = halted (advances-by d true (At i) (lt-ltb t CN h) q) (kept-dead (kept-self w) true)
+  met-stepped (At i n) d h q = halted (advances-by d true (At i n) (lt-ltb t CN h) q) (kept-dead (kept-self w) true)
   met-stepped Nobody d h q =
       let on = advances-by d true Nobody (lt-ltb t CN h) q in
       let n = not-true (any (λ e. eqb (cellOf e) t) (creatures c)) (sym (nobody-any (λ e. eqb (cellOf e) t) (creatures c)) ∙ ap nobody q) in
@@ -124,7 +124,7 @@ step-stepped c w =
 -- ---- a step that closes is what document 01 says of it
 
 found-nobody : (f : Found) → nobody f ≡ true → f ≡ Nobody
-found-nobody (At i) e = absurd (true≢false (sym e))
+found-nobody (At i n) e = absurd (true≢false (sym e))
 found-nobody Nobody e = refl
 
 pub closes-step : (c : Cutter) → closes c ≡ true → stepped c ≡ atBorder (cutClosed (entered c (target c)))

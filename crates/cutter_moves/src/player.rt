@@ -142,7 +142,7 @@ fn decide(grid: &[u8; CN], enemies: [Mover; MAX_ENEMIES], count: usize, s: Step)
         return to;
     }
     // Walking into a creature is fatal too, not only being caught by one.
-    if let Found::At(_) = enemy_at(enemies, count, at) {
+    if let Found::At(_, _) = enemy_at(enemies, count, at) {
         let mut to = s;
         to.dead = true;
         return to;

@@ -1,5 +1,5 @@
 -- Creatures and the lists of their parts. Assumes nothing.
-use mathlib.Core.Bool.{Bool, true, false, cond}
+use mathlib.Core.Bool.{Bool, true, false}
 use mathlib.Core.List.{List, [], _∷_, map}
 use mathlib.Core.Path.{_≡_, refl, sym, _∙_, ap}
 use Prim.Native.Nat.{ℕ, zero, suc, _+_, _<_, _≤_}
@@ -7,11 +7,12 @@ use native.Mathlib.Omega.{arith}
 use lib.Dec.{ltb}
 use lib.ListN.{length, length-map, getD, set, take, drop}
 use borrow.Author.Tests.{ltb-true, ltb-false}
-use Rattle.laws.proofs.Lists.{taken-one, taken-end}
-use Rattle.found.specs.First.{firstFrom}
+use Rattle.laws.proofs.Lists.{taken-one, taken-end, count-hit, count-miss}
+use Rattle.laws.specs.Lists.{count}
+use Rattle.found.specs.First.{firstFrom, numbered}
 use Rattle.found.specs.declared.Found.{Found}
-use Rattle.found.specs.declared.Found.the-variants.{At, Nobody}
-use Rattle.found.proofs.First.{first-here, first-more, first-none}
+use Rattle.found.specs.declared.Found.the-variants.{Nobody}
+use Rattle.found.proofs.First.{first-more, first-none}
 use Rattle.mine_state.specs.declared.Enemy.{Enemy}
 use Rattle.mine_state.specs.State.{MAX-ENEMIES, standsAt, blankSlot}
 use Rattle.mine_apart.specs.Apart.{xOf, yOf, dirOf, joined, Apart}
@@ -72,12 +73,12 @@ module _ (xs ys ds : List ℕ) (hx : length xs ≡ MAX-ENEMIES) (hy : length ys 
       let v : length ds ≡ length xs = hd ∙ sym hx in
       rw⁻¹ (joined-at xs ys ds i u v) (taken-one n (joined xs ys ds) i blankSlot k (omega (arith, length-joined xs ys ds u v)))
 
-  pub slot-here : {R : Found} → standsAt x y here ≡ true → firstFrom (standsAt x y) i (drop i (take n (joined xs ys ds))) ≡ R → cond (ltb i n) (At i) Nobody ≡ R
+  pub slot-here : {R : Found} → standsAt x y here ≡ true → firstFrom (standsAt x y) i (drop i (take n (joined xs ys ds))) ≡ R → numbered i (count (standsAt x y) (drop i (take n (joined xs ys ds)))) ≡ R
   slot-here {R} t e = go (ltb i n) refl
     where
-      go : (b : Bool) → ltb i n ≡ b → cond b (At i) Nobody ≡ R
-      go true q = first-here (standsAt x y) (take n (joined xs ys ds)) i (next (ltb-true i n q)) e t
-      go false q = first-none (standsAt x y) (take n (joined xs ys ds)) i (taken-end n (joined xs ys ds) i (ltb-false i n q)) e
+      go : (b : Bool) → ltb i n ≡ b → numbered i (count (standsAt x y) (drop i (take n (joined xs ys ds)))) ≡ R
+      go true q = let h = next (ltb-true i n q) in rw (h, t) (rw (h, t) at e)
+      go false q = let h = taken-end n (joined xs ys ds) i (ltb-false i n q) in rw h (rw h at e)
 
   pub slot-more : {R : Found} → standsAt x y here ≡ false → firstFrom (standsAt x y) i (drop i (take n (joined xs ys ds))) ≡ R → firstFrom (standsAt x y) (i + 1) (drop (i + 1) (take n (joined xs ys ds))) ≡ R
   slot-more {R} t e = go (ltb i n) refl
@@ -87,6 +88,13 @@ module _ (xs ys ds : List ℕ) (hx : length xs ≡ MAX-ENEMIES) (hy : length ys 
       go false q =
           let k = ltb-false i n q in
           rw (taken-end n (joined xs ys ds) (i + 1) (omega arith)) (first-none (standsAt x y) (take n (joined xs ys ds)) i (taken-end n (joined xs ys ds) i k) e)
+
+  -- and how many there are, k so far
+  pub slot-hit : (k : ℕ) {R : ℕ} → i < n → standsAt x y here ≡ true → k + count (standsAt x y) (drop i (take n (joined xs ys ds))) ≡ R → k + 1 + count (standsAt x y) (drop (i + 1) (take n (joined xs ys ds))) ≡ R
+  slot-hit k l t e = count-hit (standsAt x y) (take n (joined xs ys ds)) i k (next l) e t
+
+  pub slot-miss : (k : ℕ) {R : ℕ} → i < n → standsAt x y here ≡ false → k + count (standsAt x y) (drop i (take n (joined xs ys ds))) ≡ R → k + count (standsAt x y) (drop (i + 1) (take n (joined xs ys ds))) ≡ R
+  slot-miss k l t e = count-miss (standsAt x y) (take n (joined xs ys ds)) i k (next l) e t
 
 pub slot-none : (xs ys ds : List ℕ) (n i x y : ℕ) {R : Found} → n ≤ i → firstFrom (standsAt x y) i (drop i (take n (joined xs ys ds))) ≡ R → Nobody ≡ R
 slot-none xs ys ds n i x y h e = first-none (standsAt x y) (take n (joined xs ys ds)) i (taken-end n (joined xs ys ds) i h) e

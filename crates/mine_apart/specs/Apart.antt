@@ -3,7 +3,8 @@ use mathlib.Core.Bool.{Bool}
 use mathlib.Core.List.{List, [], _∷_}
 use mathlib.Core.Path.{_≡_}
 use Prim.Native.Nat.{ℕ, _≤_}
-use lib.ListN.{length, take}
+use lib.ListN.{length, take, drop}
+use Rattle.laws.specs.Lists.{count}
 use Rattle.found.specs.First.{first}
 use Rattle.found.specs.declared.Found.{Found}
 use Rattle.mine_state.specs.declared.Mine.{Mine}
@@ -54,9 +55,13 @@ pub record Lent (g xs ys : List ℕ) (n : ℕ) : Type 0 where
   pub cells : length g ≡ AREA
   pub people : Peopled xs ys n
 
--- whatever their directions, r is the first of the first n of them at (x, y), or nobody
+-- whatever their directions, r is the first of the first n of them at (x, y) with how many are there, or nobody
 abbrev pub Sees : List ℕ → List ℕ → ℕ → ℕ → ℕ → Found → Type 0
 Sees xs ys n x y r = (ds : List ℕ) → length ds ≡ MAX-ENEMIES → r ≡ first (standsAt x y) (take n (joined xs ys ds))
+
+-- and r is how many are there from slot i on
+abbrev pub Numbers : List ℕ → List ℕ → ℕ → ℕ → ℕ → ℕ → ℕ → Type 0
+Numbers xs ys i n x y r = (ds : List ℕ) → length ds ≡ MAX-ENEMIES → r ≡ count (standsAt x y) (drop i (take n (joined xs ys ds)))
 
 -- whatever else a state holds that has the lent cells, creatures at the lent places and its player at (px, py): whether (x, y) is free
 abbrev pub Frees : List ℕ → List ℕ → List ℕ → ℕ → ℕ → ℕ → ℕ → ℕ → Bool → Type 0

@@ -1,17 +1,15 @@
 // Block Mine's creatures taken apart into arrays of numbers, which are lent where creatures are not, and who stands where by them.
 use found::Found;
+use found::numbered;
 use mine_state::AREA;
 use mine_state::EMPTY;
 use mine_state::Enemy;
 use mine_state::H;
 use mine_state::MAX_ENEMIES;
 use mine_state::W;
-ghost use mathlib.Core.Bool.{cond};
 ghost use mathlib.Core.List.{map};
 ghost use mathlib.Core.Path.{_≡_};
-ghost use lib.Dec.{ltb};
-ghost use Rattle.found.specs.declared.Found.the-variants.{At, Nobody};
-ghost use Rattle.mine_apart.specs.Apart.{xOf, yOf, dirOf, joined, Apart, Peopled, Looked, Lent, Sees, Frees};
+ghost use Rattle.mine_apart.specs.Apart.{xOf, yOf, dirOf, joined, Apart, Peopled, Looked, Lent, Sees, Numbers, Frees};
 
 // As many creatures as the level has. A loop over as many slots, or over all, is compiled without a counter.
 const FEW: usize = 2;
@@ -77,17 +75,30 @@ pub fn enemies_of(
     out
 }
 
-// The slot i, where it is one of the first `count`.
-fn among(i: usize, count: usize) -> Found
-    ensures { λ r. ⌜ r ≡ cond (ltb i count) (At i) Nobody ⌝ }
+// How many of the creatures from slot `from` on are at (x, y).
+fn number_from(
+    xs: &[usize; MAX_ENEMIES],
+    ys: &[usize; MAX_ENEMIES],
+    from: usize,
+    count: usize,
+    x: usize,
+    y: usize,
+) -> usize
+    requires { ⌜ Peopled (now xs) (now ys) count ⌝ }
+    ensures { λ r. ⌜ Numbers (now (xs .entry)) (now (ys .entry)) from count x y r ⌝ }
 {
-    if i < count {
-        return Found::At(i);
+    let mut n: usize = 0;
+    let mut i = from;
+    while i < count {
+        if (xs[i] == x) & (ys[i] == y) {
+            n += 1;
+        }
+        i += 1;
     }
-    Found::Nobody
+    n
 }
 
-// The first creature at (x, y) or nobody, where no more than the first n slots hold creatures.
+// The first creature at (x, y) and how many are there, or nobody, where no more than the first n slots hold creatures.
 fn first_of(
     xs: &[usize; MAX_ENEMIES],
     ys: &[usize; MAX_ENEMIES],
@@ -102,14 +113,14 @@ fn first_of(
     let mut i: usize = 0;
     while i < n {
         if (xs[i] == x) & (ys[i] == y) {
-            return among(i, count);
+            return numbered(i, number_from(xs, ys, i, count, x, y));
         }
         i += 1;
     }
     Found::Nobody
 }
 
-// The first creature at (x, y), or nobody.
+// The first creature at (x, y) and how many are there, or nobody.
 pub fn enemy_at(
     xs: &[usize; MAX_ENEMIES],
     ys: &[usize; MAX_ENEMIES],
@@ -153,7 +164,7 @@ pub fn free(
     if (px == x) & (py == y) {
         return false;
     }
-    if let Found::At(_) = enemy_at(xs, ys, count, x, y) {
+    if let Found::At(_, _) = enemy_at(xs, ys, count, x, y) {
         return false;
     }
     true

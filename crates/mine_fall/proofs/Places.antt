@@ -9,8 +9,9 @@ use lib.Dec.{eqb, ltb}
 use lib.ListN.{length, getD, take, set}
 use borrow.Author.Tests.{ne-eqb, ltb-true, ltb-false, lt-ltb, le-ltb}
 use Rattle.laws.proofs.Choice.{and-left, and-right}
-use Rattle.found.specs.First.{firstFrom, nobody}
+use Rattle.found.specs.First.{firstFrom, nobody, number}
 use Rattle.found.specs.declared.Found.the-variants.{At, Nobody}
+use Rattle.found.proofs.First.{from-number}
 use Rattle.mine_state.specs.declared.Mine.{Mine}
 use Rattle.mine_state.specs.declared.Enemy.{Enemy}
 use Rattle.mine_state.specs.State.{onMap, allOnMap, W, H, AREA, place, standsAt, firstAt, playerAt, emptyAt, freeAt, blankSlot}
@@ -33,7 +34,9 @@ spots-search x y hx hy zero k (e ∷ l) a =
     rw (off-place x y hx hy) (spots-search x y hx hy zero (k + 1) l (and-right (onMap e) (allOnMap l) a))
 spots-search x y hx hy (suc n) k (e ∷ l) a =
     let b = map-inside e (and-left (onMap e) (allOnMap l) a) .0 in
-    rw (sym (same-place (e .x) (e .y) x y b hx), spots-search x y hx hy n (k + 1) l (and-right (onMap e) (allOnMap l) a))
+    let q = spots-search x y hx hy n (k + 1) l (and-right (onMap e) (allOnMap l) a) in
+    let c = sym (from-number (isSpot (place x y)) (k + 1) (spotsFrom n l)) ∙ ap number q ∙ from-number (standsAt x y) (k + 1) (take n l) in
+    rw (sym (same-place (e .x) (e .y) x y b hx), q, c)
 
 ltb-step : (i n : ℕ) (t : Bool) → ltb i n ≡ t → ltb (suc i) (suc n) ≡ t
 ltb-step i n true e = let h = ltb-true i n e in lt-ltb (suc i) (suc n) (omega arith)
@@ -77,8 +80,8 @@ module _ {m : Mine} {spots : List ℕ} (s : Spotted m spots) where
   pub first-spot : (x y : ℕ) → x < W → y < H → firstSpot (place x y) spots ≡ firstAt m x y
   first-spot x y hx hy = rw (s .them) (spots-search x y hx hy (m .count) 0 (m .enemies) (s .placed))
 
-  pub spot-below : (x y k : ℕ) → x < W → y < H → firstSpot (place x y) spots ≡ At k → k < m .count
-  spot-below x y k hx hy e = found-below m x y k (sym (first-spot x y hx hy) ∙ e)
+  pub spot-below : (x y k j : ℕ) → x < W → y < H → firstSpot (place x y) spots ≡ At k j → k < m .count
+  spot-below x y k j hx hy e = found-below m x y k j (sym (first-spot x y hx hy) ∙ e)
 
 module _ {m : Mine} {spots : List ℕ} {player : ℕ} (s : Stand m spots player) where
   pub player-spot : (x y : ℕ) → x < W → eqb player (place x y) ≡ playerAt m x y

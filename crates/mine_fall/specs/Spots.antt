@@ -24,7 +24,7 @@ spotsFrom (suc n) (e ∷ es) = place (e .x) (e .y) ∷ spotsFrom n es
 abbrev pub isSpot : ℕ → ℕ → Bool
 isSpot at s = eqb s at
 
--- the first creature at a place, or nobody
+-- the first creature at a place and how many are there, or nobody
 abbrev pub firstSpot : ℕ → List ℕ → Found
 firstSpot at spots = first (isSpot at) spots
 

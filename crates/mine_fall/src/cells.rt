@@ -121,7 +121,7 @@ fn over_empty(
     if player == at {
         return over_player(grid, falling, x, y);
     }
-    let Found::At(k) = enemy_at(spots, at) else {
+    let Found::At(k, _) = enemy_at(spots, at) else {
         move_obj(grid, falling, x, y, x, by);
         return Fell::Quiet;
     };

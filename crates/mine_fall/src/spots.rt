@@ -7,9 +7,10 @@ use mine_state::MAX_ENEMIES;
 use mine_state::W;
 ghost use mathlib.Core.Bool.{cond};
 ghost use mathlib.Core.Path.{_≡_};
-ghost use lib.ListN.{length};
+ghost use lib.ListN.{length, drop};
+ghost use Rattle.laws.specs.Lists.{count};
 ghost use Rattle.mine_state.specs.State.{AREA, MAX-ENEMIES};
-ghost use Rattle.mine_fall.specs.Spots.{firstSpot, freeSpot, Lent};
+ghost use Rattle.mine_fall.specs.Spots.{isSpot, firstSpot, freeSpot, Lent};
 ghost use Rattle.mine_fall.specs.Places.{Placed, Spots};
 
 // The place of a creature that is there, and AREA, which is no place, for a slot past the count.
@@ -41,7 +42,23 @@ pub fn spots_of(
     out
 }
 
-// The first creature at a place, or nobody.
+// How many creatures from slot `from` on are at a place.
+fn number_from(spots: &[usize; MAX_ENEMIES], from: usize, at: usize) -> usize
+    requires { ⌜ length (now spots) ≡ MAX-ENEMIES ⌝ }
+    ensures { λ r. ⌜ r ≡ count (isSpot at) (drop from (now (spots .entry))) ⌝ }
+{
+    let mut n: usize = 0;
+    let mut i = from;
+    while i < MAX_ENEMIES {
+        if spots[i] == at {
+            n += 1;
+        }
+        i += 1;
+    }
+    n
+}
+
+// The first creature at a place and how many are there, or nobody.
 pub fn enemy_at(spots: &[usize; MAX_ENEMIES], at: usize) -> Found
     requires { ⌜ length (now spots) ≡ MAX-ENEMIES ⌝ }
     ensures { λ r. ⌜ r ≡ firstSpot at (now (spots .entry)) ⌝ }
@@ -49,7 +66,7 @@ pub fn enemy_at(spots: &[usize; MAX_ENEMIES], at: usize) -> Found
     let mut i: usize = 0;
     while i < MAX_ENEMIES {
         if spots[i] == at {
-            return Found::At(i);
+            return Found::At(i, number_from(spots, i, at));
         }
         i += 1;
     }
@@ -80,7 +97,7 @@ pub fn free(
     if player == at {
         return false;
     }
-    if let Found::At(_) = enemy_at(spots, at) {
+    if let Found::At(_, _) = enemy_at(spots, at) {
         return false;
     }
     true

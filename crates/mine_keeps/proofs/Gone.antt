@@ -48,10 +48,10 @@ module _ (l : List Enemy) (n i : ℕ) (h : i < n) (k : n ≤ length l) where
       rw after (apart-set front i last (b .0) (b .1))
 
   -- nobody is left where it stood
-  pub gone-nobody : (x y : ℕ) → apart (take n l) ≡ true → first (standsAt x y) (take n l) ≡ At i → any (standsAt x y) (take (n - 1) slots) ≡ false
-  gone-nobody x y a e =
+  pub gone-nobody : (x y k : ℕ) → apart (take n l) ≡ true → first (standsAt x y) (take n l) ≡ At i k → any (standsAt x y) (take (n - 1) slots) ≡ false
+  gone-nobody x y k a e =
       let z : i ≡ 0 + i = omega arith in
-      rw after (found-gone x y 0 i front last (rw before at a) (ap (first (standsAt x y)) (sym before) ∙ e ∙ ap At z))
+      rw after (found-gone x y 0 i k front last (rw before at a) (ap (first (standsAt x y)) (sym before) ∙ e ∙ ap (λ (j : ℕ). At j k) z))
 
   pub gone-rest : all blank (drop n l) ≡ true → all blank (drop (n - 1) slots) ≡ true
   gone-rest a =

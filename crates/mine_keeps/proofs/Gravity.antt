@@ -29,12 +29,12 @@ module _ {m s : Mine} (k : Kept m s) where
       kept-marks (kept-shifted k x y nx ny f) (set (set (s .falling) (place nx ny) true) (place x y) false) (simp length-set (k .formed .marks))
 
   -- the cell of a creature that went is free
-  free-gone : (x y i : ℕ) → emptyAt (s .grid) x y ≡ true → playerAt s x y ≡ false → firstAt s x y ≡ At i → freeAt (without s i) x y ≡ true
+  free-gone : (x y i j : ℕ) → emptyAt (s .grid) x y ≡ true → playerAt s x y ≡ false → firstAt s x y ≡ At i j → freeAt (without s i) x y ≡ true
   unfolding freeAt without
-  free-gone x y i e p q =
+  free-gone x y i j e p q =
       let w = k .formed in
       let b : s .count ≤ length (s .enemies) = omega (arith, w .slots, w .few) in
-      let n = gone-nobody (s .enemies) (s .count) i (found-below s x y i q) b x y (w .distinct) q in
+      let n = gone-nobody (s .enemies) (s .count) i (found-below s x y i j q) b x y j (w .distinct) q in
       rw (e, p) (nobody-any (standsAt x y) (creatures (without s i)) ∙ ap not n)
 
 keeps : (m : Mine) → Keeps (Kept m)
@@ -44,7 +44,7 @@ keeps m =
       moves = λ s x y nx ny o f k. kept-carried k x y nx ny f;
       collects = λ s x y c k. kept-collected k x y c;
       kills = λ s k. kept-killed k;
-      squashes = λ s x y i o e p q k. kept-carried (kept-without k i (found-below s x (y + 1) i q)) x y x (y + 1) (free-gone k x (y + 1) i e p q);
+      squashes = λ s x y i j o e p q k. kept-carried (kept-without k i (found-below s x (y + 1) i j q)) x y x (y + 1) (free-gone k x (y + 1) i j e p q);
     }
 
 pub gravity-kept : (m : Mine) → WellFormed m → Kept m (gravityOf m)

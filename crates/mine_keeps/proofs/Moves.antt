@@ -71,7 +71,7 @@ module _ {m : Mine} (w : WellFormed m) (x y : ℕ) (hx : x < W) (hy : y < H) whe
       (λ _. kept-self w)))))
 
   kept-meets : (d : ℕ) (f : Found) → Kept m (meets m d x y f)
-  kept-meets d (At i) = kept-killed (kept-self w)
+  kept-meets d (At i n) = kept-killed (kept-self w)
   kept-meets d Nobody = kept-met d
 
 kept-to : {m : Mine} → WellFormed m → (d : ℕ) (a : Ahead) → (nextCell d (m .px) (m .py) ≡ a) → Kept m (movedTo m d a)

@@ -41,7 +41,7 @@ module _ (m : Mine) {g : List ℕ} {es : List Enemy} {n : ℕ} (same : m .grid �
   pub goes-blocked : (codeIn g x y ≡ EMPTY → ⊥) → Stays ≡ goesTo m d (Cell x y)
   goes-blocked n = simp (empty-there ∙ ne-eqb (codeIn g x y) EMPTY n)
 
-  pub goes-met : {i : ℕ} → codeIn g x y ≡ EMPTY → first (standsAt x y) (take n es) ≡ At i → Stays ≡ goesTo m d (Cell x y)
+  pub goes-met : {i k : ℕ} → codeIn g x y ≡ EMPTY → first (standsAt x y) (take n es) ≡ At i k → Stays ≡ goesTo m d (Cell x y)
   goes-met e f = simp (empty-there ∙ eq-eqb (codeIn g x y) EMPTY e, seen ∙ f)
 
   pub goes-open : codeIn g x y ≡ EMPTY → first (standsAt x y) (take n es) ≡ Nobody → Goes (record { x = x; y = y; dir = d }) ≡ goesTo m d (Cell x y)

@@ -141,7 +141,7 @@ fn decide(
     let Ahead::Cell(x, y) = next_cell(dir, s.px, s.py) else {
         return s;
     };
-    if let Found::At(_) = enemy_at(xs, ys, count, x, y) {
+    if let Found::At(_, _) = enemy_at(xs, ys, count, x, y) {
         let mut to = s;
         to.dead = true;
         return to;

@@ -40,7 +40,7 @@ fn way(
     if at(grid, nx, ny) != EMPTY {
         return Step::Stays;
     }
-    if let Found::At(_) = enemy_at(xs, ys, count, nx, ny) {
+    if let Found::At(_, _) = enemy_at(xs, ys, count, nx, ny) {
         return Step::Stays;
     }
     Step::Goes(Enemy {

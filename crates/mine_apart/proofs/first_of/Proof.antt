@@ -1,10 +1,10 @@
 use mathlib.Core.List.{List}
-use mathlib.Core.Path.{_≡_, refl, _∙_}
+use mathlib.Core.Path.{_≡_, refl, ap, _∙_}
 use Prim.Native.Nat.{ℕ, _≤_, _-_}
 use native.Mathlib.Omega.{arith}
 use lib.ListN.{length, take, drop}
 use borrow.Author.Needs.{needs}
-use Rattle.found.specs.First.{firstFrom, first}
+use Rattle.found.specs.First.{firstFrom, first, numbered}
 use Rattle.mine_state.specs.State.{MAX-ENEMIES, standsAt}
 use Rattle.mine_apart.specs.Apart.{joined}
 use Rattle.mine_apart.proofs.Joined.{slot-here, slot-more, slot-none}
@@ -33,15 +33,19 @@ mul-if1-2 c = omega (arith, c .before .before .before .pre .few)
 element-copy-out-if1-2 : tie.Need-element-copy-out-if1-2 Inv-loop μ-loop
 element-copy-out-if1-2 c = let s = c .before .before .before in omega (arith, s .pre .few, s .pre .down)
 
-among-requires : tie.Need-among-requires Inv-loop μ-loop
-among-requires c κs = search needs
+number-from-requires : tie.Need-number-from-requires Inv-loop μ-loop
+number-from-requires c κs =
+    let p = c .before .before .before .before .before .pre in record { across = p .across; down = p .down; few = omega (arith, p .enough, p .few) }
+
+numbered-requires : tie.Need-numbered-requires Inv-loop μ-loop
+numbered-requires c κs = search needs
 
 returns : tie.Need-returns Inv-loop μ-loop
 returns c =
-    let k = c .before .before .before .before .before in
+    let k = c .before .before .before .before .before .before in
     let a = k .before .args in
     let p = k .before .pre in
-    λ ds l. c .among .ensures ∙ slot-here (a .xs .now) (a .ys .now) ds (p .across) (p .down) l (a .count) (k .loop .i) (a .x) (a .y) (omega (arith, p .few)) (c .before .if1 .taken) (k .loop .inv .1 ds l)
+    λ ds l. c .numbered .ensures ∙ ap (numbered (k .loop .i)) (c .before .«number-from» .ensures ds l) ∙ slot-here (a .xs .now) (a .ys .now) ds (p .across) (p .down) l (a .count) (k .loop .i) (a .x) (a .y) (omega (arith, p .few)) (c .before .before .if1 .taken) (k .loop .inv .1 ds l)
 
 add-i : tie.Need-add-i Inv-loop μ-loop
 add-i c = omega (arith, c .before .before .before .before .before .pre .few)
@@ -73,7 +77,8 @@ first-of-spec =
     element-copy-out-if1
     mul-if1-2
     element-copy-out-if1-2
-    among-requires
+    number-from-requires
+    numbered-requires
     returns
     add-i
     loop-less

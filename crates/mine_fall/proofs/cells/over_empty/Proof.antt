@@ -71,7 +71,7 @@ returns-3 c =
     let t = sym (c .before .before .before .before .before .before .before .before .enemy-at .ensures) ∙ c .before .before .before .before .before .before .k .given .1 in
     let p = off-player s (a .args .x) (a .args .y + 1) (h .across) (c .before .before .before .before .before .before .before .before .before .if1 .left) in
     let q = found s (a .args .x) (a .args .y + 1) (h .across) (h .down) t in
-    simp (p, q, c .before .before .before .if2 .taken) (c .move-obj2 .ensures (without m k) .0, spot-below (s .spotted) (a .args .x) (a .args .y + 1) k (h .across) (h .down) t)
+    simp (p, q, c .before .before .before .if2 .taken) (c .move-obj2 .ensures (without m k) .0, spot-below (s .spotted) (a .args .x) (a .args .y + 1) k _ (h .across) (h .down) t)
 
 element-write-falling : tie.Need-element-write-falling
 element-write-falling c = search needs

@@ -1,4 +1,4 @@
-use mathlib.Core.Path.{_≡_, refl}
+use mathlib.Core.Path.{_≡_, refl, ap, _∙_}
 use Prim.Native.Nat.{_≤_, _-_}
 use native.Mathlib.Omega.{arith}
 use lib.ListN.{drop}
@@ -6,6 +6,7 @@ use borrow.Author.Needs.{needs}
 use borrow.Author.Tests.{eq-eqb, ne-eqb}
 use Rattle.laws.proofs.Lists.{drop-one, drop-end}
 use Rattle.found.specs.First.{firstFrom}
+use Rattle.found.specs.declared.Found.the-variants.{At}
 use Rattle.found.proofs.First.{first-here, first-more, first-none}
 use Rattle.mine_state.specs.State.{MAX-ENEMIES}
 use Rattle.mine_fall.specs.Spots.{isSpot, firstSpot}
@@ -27,11 +28,15 @@ mul-if1 c = search needs
 element-copy-out-if1 : tie.Need-element-copy-out-if1 Inv-loop μ-loop
 element-copy-out-if1 c = omega (arith, c .before .before .pre)
 
+number-from-requires : tie.Need-number-from-requires Inv-loop μ-loop
+number-from-requires c κs = search needs
+
 returns : tie.Need-returns Inv-loop μ-loop
 returns c =
-    let k = c .before .before .before in
+    let k = c .before .before .before .before in
     let l = k .before .args .spots .now in
-    first-here (isSpot (k .before .args .at)) l (k .loop .i) (drop-one l (k .loop .i) 0 (omega (arith, k .before .pre))) (k .loop .inv .1) (eq-eqb _ _ (c .if1 .taken))
+    ap (At (k .loop .i)) (c .«number-from» .ensures)
+    ∙ first-here (isSpot (k .before .args .at)) l (k .loop .i) (drop-one l (k .loop .i) 0 (omega (arith, k .before .pre))) (k .loop .inv .1) (eq-eqb _ _ (c .before .if1 .taken))
 
 add-i : tie.Need-add-i Inv-loop μ-loop
 add-i c = omega arith
@@ -60,6 +65,7 @@ enemy-at-spec =
     loop-holds
     mul-if1
     element-copy-out-if1
+    number-from-requires
     returns
     add-i
     loop-less
