@@ -3,10 +3,11 @@ ghost use mathlib.Core.Bool.{cond, _&&_, _||_};
 ghost use mathlib.Core.Path.{_≡_};
 ghost use Prim.Native.Nat.{_<_, _≤_};
 ghost use lib.Dec.{eqb};
-ghost use lib.ListN.{take};
+ghost use lib.ListN.{take, drop};
+ghost use Rattle.laws.specs.Lists as L;
 ghost use Rattle.ground.specs.Cells.{CN, MAX-ENEMIES, CB-BLACK, CB-TRAIL};
 ghost use Rattle.cutter_state.specs.WellFormed.{WellFormed};
-ghost use Rattle.cutter_rules.specs.Tick.{creatureAt, flipped, gone, bounced, enemiesStepped};
+ghost use Rattle.cutter_rules.specs.Tick.{isAt, creatureAt, flipped, gone, bounced, enemiesStepped};
 ghost use Rattle.cutter_moves.specs.Moves.{Roams, Bounces, Ticks, viewOf, moverAt, roamOf, tickOf};
 use crate::ahead::side_in;
 use crate::ahead::vertical_in;
@@ -20,7 +21,24 @@ use ground::MAX_ENEMIES;
 use ground::Mover;
 use ground::cell_of;
 
-// The first creature at a cell, or nobody.
+// How many of the first `count` creatures are at a cell, from number `from` on.
+fn number_from(enemies: [Mover; MAX_ENEMIES], from: usize, count: usize, at: usize) -> usize
+    requires { ⌜ count ≤ MAX-ENEMIES ⌝ }
+    ensures { λ r. ⌜ r ≡ L.count (isAt at) (drop from (take count enemies)) ⌝ }
+{
+    let mut n: usize = 0;
+    let mut i = from;
+    while i < count {
+        let e = enemies[i];
+        if cell_of(e) == at {
+            n += 1;
+        }
+        i += 1;
+    }
+    n
+}
+
+// The first creature at a cell and how many are there, or nobody.
 pub fn enemy_at(enemies: [Mover; MAX_ENEMIES], count: usize, at: usize) -> Found
     requires { ⌜ count ≤ MAX-ENEMIES ⌝ }
     ensures { λ r. ⌜ r ≡ creatureAt (take count enemies) at ⌝ }
@@ -29,7 +47,7 @@ pub fn enemy_at(enemies: [Mover; MAX_ENEMIES], count: usize, at: usize) -> Found
     while i < count {
         let e = enemies[i];
         if cell_of(e) == at {
-            return Found::At(i);
+            return Found::At(i, number_from(enemies, i, count, at));
         }
         i += 1;
     }

@@ -29,9 +29,9 @@ module _ (c : Cutter) (d : noDirection c ≡ false) (t : ℕ) (e : t ≡ target 
   unfolding stepped
   step-on f h q = rw (d, ← e, lt-leb CN t h, ← q)
 
-  pub step-killed : (f : Found) (i n : ℕ) → t < CN → f ≡ creatureAt (creatures c) t → f ≡ At i n → killed c ≡ stepped c
+  pub step-killed : (f : Found) {i n : ℕ} → t < CN → f ≡ creatureAt (creatures c) t → f ≡ At i n → killed c ≡ stepped c
   unfolding met
-  step-killed f i n h q a = rw a at (step-on f h q)
+  step-killed f h q a = rw a at (step-on f h q)
 
   pub step-trailing : (f : Found) → t < CN → f ≡ creatureAt (creatures c) t → f ≡ Nobody → c .trailing ≡ true → trailingStep c t ≡ stepped c
   unfolding met

@@ -14,9 +14,13 @@ use Rattle.cutter_state.specs.State.{creatures, spare}
 use Rattle.cutter_state.specs.Change.{withCreatures, withDead}
 use Rattle.cutter_rules.specs.Ahead.{sideOf, verticalOf, diagonalOf}
 
+-- a creature at a cell
+abbrev pub isAt : ℕ → Mover → Bool
+isAt at e = eqb (cellOf e) at
+
 -- the first creature at a cell and how many are there, or nobody
 abbrev pub creatureAt : List Mover → ℕ → Found
-creatureAt es at = first (λ e. eqb (cellOf e) at) es
+creatureAt es at = first (isAt at) es
 
 abbrev pub lineAt : List ℕ → ℕ → Bool
 lineAt g c = eqb (cellAt g c) CB-TRAIL

@@ -1,21 +1,20 @@
-use mathlib.Core.Path.{_≡_, refl, sym, _∙_}
+use mathlib.Core.Path.{_≡_, refl, sym, ap, _∙_}
 use Prim.Native.Nat.{_≤_, _-_}
 use native.Mathlib.Omega.{arith}
 use borrow.Author.Needs.{needs}
 use borrow.Author.Tests.{eq-eqb, ne-eqb}
-use lib.Dec.{eqb}
 use lib.ListN.{take, drop}
 use Rattle.laws.proofs.Lists.{mapped-below, taken-one, taken-end}
 use Rattle.found.specs.First.{firstFrom}
+use Rattle.found.specs.declared.Found.the-variants.{At}
 use Rattle.found.proofs.First.{first-here, first-more, first-none}
-use Rattle.ground.specs.Cells.{cellOf}
-use Rattle.cutter_rules.specs.Tick.{creatureAt}
+use Rattle.cutter_rules.specs.Tick.{isAt, creatureAt}
 use Rattle.cutter_moves.proofs.enemies.enemy_at.Statement.{statement}
 use Rattle.cutter_moves.proofs.enemies.enemy_at.Tie as tie
 
 abbrev Inv-loop : tie.InvT-loop
 Inv-loop count at enemies i₀ i =
-    (i ≤ count) × (firstFrom (λ e. eqb (cellOf e) at) i (drop i (take count enemies)) ≡ creatureAt (take count enemies) at)
+    (i ≤ count) × (firstFrom (isAt at) i (drop i (take count enemies)) ≡ creatureAt (take count enemies) at)
 
 abbrev μ-loop : tie.MeasureT-loop
 μ-loop count at enemies i₀ i = count - i
@@ -32,12 +31,16 @@ array-copy-out-e c = search needs
 cell-of-requires : tie.Need-cell-of-requires Inv-loop μ-loop
 cell-of-requires c κs = search needs
 
+number-from-requires : tie.Need-number-from-requires Inv-loop μ-loop
+number-from-requires c κs = search needs
+
 returns : tie.Need-returns Inv-loop μ-loop
 returns c =
-    let k = c .before .before .before .before in
+    let k = c .before .before .before .before .before in
     let a = k .before .args in
     let h = taken-one (a .count) (a .t1) (k .loop .i) _ (omega arith) (search (needs, mapped-below)) in
-    first-here (λ e. eqb (cellOf e) (a .at)) (take (a .count) (a .t1)) (k .loop .i) h (k .loop .inv .1) (eq-eqb _ _ (sym (c .before .cell-of .ensures) ∙ c .if1 .taken))
+    ap (At (k .loop .i)) (c .«number-from» .ensures)
+    ∙ first-here (isAt (a .at)) (take (a .count) (a .t1)) (k .loop .i) h (k .loop .inv .1) (eq-eqb _ _ (sym (c .before .before .cell-of .ensures) ∙ c .before .if1 .taken))
 
 add-i : tie.Need-add-i Inv-loop μ-loop
 add-i c = search needs
@@ -51,14 +54,14 @@ loop-again c =
     let a = k .before .args in
     let h = taken-one (a .count) (a .t1) (k .loop .i) _ (omega arith) (search (needs, mapped-below)) in (
       omega arith,
-      first-more (λ e. eqb (cellOf e) (a .at)) (take (a .count) (a .t1)) (k .loop .i) h (k .loop .inv .1) (ne-eqb _ _ (λ e. c .if1 .left (c .before .cell-of .ensures ∙ e))),
+      first-more (isAt (a .at)) (take (a .count) (a .t1)) (k .loop .i) h (k .loop .inv .1) (ne-eqb _ _ (λ e. c .if1 .left (c .before .cell-of .ensures ∙ e))),
     )
 
 returns-2 : tie.Need-returns-2 Inv-loop μ-loop
 returns-2 c =
     let k = c .before in
     let a = k .before .args in
-    first-none (λ e. eqb (cellOf e) (a .at)) (take (a .count) (a .t1)) (k .loop .i) (taken-end (a .count) (a .t1) (k .loop .i) (omega arith)) (k .loop .inv .1)
+    first-none (isAt (a .at)) (take (a .count) (a .t1)) (k .loop .i) (taken-end (a .count) (a .t1) (k .loop .i) (omega arith)) (k .loop .inv .1)
 
 pub enemy-at-spec : {M : Type 1} → statement M
 enemy-at-spec =
@@ -70,6 +73,7 @@ enemy-at-spec =
     mul-e
     array-copy-out-e
     cell-of-requires
+    number-from-requires
     returns
     add-i
     loop-less
