@@ -1,15 +1,16 @@
 -- Laws of the search for the first: a turn of a loop over a list, its end, and what is found. Assumes nothing.
 use mathlib.Core.Bool.{Bool, true, false, cond, not, _||_}
 use mathlib.Core.List.{List, [], _∷_}
-use mathlib.Core.Path.{_≡_, refl, sym, ap, _∙_}
-use Prim.Native.Nat.{ℕ, zero, suc, _+_, _<_, _≤_}
+use mathlib.Core.Path.{_≡_, refl, sym, ap, subst, _∙_}
+use Prim.Native.Nat.{ℕ, zero, suc, _+_, _-_, _<_, _≤_}
 use native.Mathlib.Numerals.{add-one}
 use native.Mathlib.Omega.{arith}
-use lib.Dec.{T, eqb}
-use lib.ListN.{length, getD, drop}
+use lib.Dec.{T, T-not, eqb, eqb→eq, eqb-refl}
+use lib.ListN.{length, length-drop, getD, drop}
 use borrow.Author.Tests.{ne-eqb}
 use Rattle.laws.specs.Lists.{any, count}
 use Rattle.laws.proofs.Lists.{drop-one}
+use Rattle.laws.proofs.Counts.{count-le}
 use Rattle.found.specs.First.{firstFrom, first, nobody, number, numbered}
 use Rattle.found.specs.declared.Found.{Found}
 use Rattle.found.specs.declared.Found.the-variants.{At, Nobody}
@@ -92,16 +93,30 @@ numbered-number i zero = refl
 numbered-number i (suc n) = refl
 
 -- A loop over a list from its end: of what is left from i on, f is the first, and n pass.
-module _ {A : Type 0} (test : A → Bool) (l : List A) (i f n : ℕ) where
-  pub number-rest : numbered f n ≡ firstFrom test i (drop i l) → n ≡ count test (drop i l)
-  number-rest e = sym (numbered-number f n) ∙ ap number e ∙ from-number test i (drop i l)
+module _ {A : Type 0} (test : A → Bool) (l : List A) (i f n : ℕ) (e : numbered f n ≡ firstFrom test i (drop i l)) where
+  rest : n ≡ count test (drop i l)
+  rest = sym (numbered-number f n) ∙ ap number e ∙ from-number test i (drop i l)
+
+  pub back-room : i ≤ length l → n + i ≤ length l
+  back-room h = omega (arith, rest, count-le test (drop i l), length-drop i l)
+
+  before : (d : A) → 0 < i → i ≤ length l → drop (i - 1) l ≡ getD l (i - 1) d ∷ drop i l
+  before d h k =
+      let q : i - 1 + 1 ≡ i = omega arith in
+      subst (λ (j : ℕ). drop (i - 1) l ≡ getD l (i - 1) d ∷ drop j l) q (drop-one l (i - 1) d (omega arith))
 
   -- a turn of it, by what the test answered of the one before
-  pub back-here : (d : A) (b : Bool) → b ≡ test (getD l i d) → T b → i < length l → numbered f n ≡ firstFrom test (i + 1) (drop (i + 1) l) → numbered i (n + 1) ≡ firstFrom test i (drop i l)
-  back-here d true t h less e =
-      rw (drop-one l i d less, ← t, add-one n) (ap (λ (k : ℕ). At i (suc k)) (sym (numbered-number f n) ∙ ap number e ∙ from-number test (i + 1) (drop (i + 1) l)))
-  back-here d false t h less e = absurd h
+  pub back-here : (d : A) (b : Bool) → 0 < i → i ≤ length l → b ≡ test (getD l (i - 1) d) → T b → numbered (i - 1) (n + 1) ≡ firstFrom test (i - 1) (drop (i - 1) l)
+  back-here d true h k t p = rw (before d h k, ← t, add-one n, rest)
+  back-here d false h k t p = absurd p
 
-  pub back-more : (d : A) (b : Bool) → b ≡ test (getD l i d) → T (not b) → i < length l → numbered f n ≡ firstFrom test (i + 1) (drop (i + 1) l) → numbered f n ≡ firstFrom test i (drop i l)
-  back-more d true t h less e = absurd h
-  back-more d false t h less e = rw (drop-one l i d less, ← t) e
+  pub back-more : (d : A) (b : Bool) → 0 < i → i ≤ length l → b ≡ test (getD l (i - 1) d) → T (not b) → numbered f n ≡ firstFrom test (i - 1) (drop (i - 1) l)
+  back-more d true h k t p = absurd p
+  back-more d false h k t p = let q : i - 1 + 1 ≡ i = omega arith in rw (before d h k, ← t, q) e
+
+-- the end of it, by whether the number is zero
+pub numbered-none : (i n : ℕ) {R : Found} → numbered i n ≡ R → T (eqb n 0) → Nobody ≡ R
+numbered-none i n e z = ap (numbered i) (sym (eqb→eq n 0 z)) ∙ e
+
+pub numbered-told : (i n : ℕ) {R : Found} → numbered i n ≡ R → T (not (eqb n 0)) → At i n ≡ R
+numbered-told i n e z = sym (numbered-some i n (λ q. T-not (eqb n 0) z (subst (λ (k : ℕ). T (eqb k 0)) (sym q) (eqb-refl 0)))) ∙ e
