@@ -1,4 +1,4 @@
--- Document 01, 'What has to be reshaped': one question takes the creatures as a lent list and tells the first at a cell, or nobody.
+-- Document 01, 'What has to be reshaped': one question takes the creatures as a lent list and tells the first at a cell, or nobody; document 02 (iii): and how many.
 use mathlib.Core.List.{List}
 use Prim.Native.Nat.{ℕ}
 use Rattle.found.specs.First.{first}

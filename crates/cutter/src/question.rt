@@ -1,4 +1,4 @@
-// The host's question: who is at a cell.
+// The host's question: who is at a cell, and how many.
 use found::Found;
 use ground::MAX_ENEMIES;
 use ground::Mover;
@@ -7,18 +7,24 @@ ghost use mathlib.Core.Path.{_≡_};
 ghost use lib.ListN.{take};
 ghost use Rattle.cutter.specs.Question.{whoAt};
 
-// The first of a lent list at (x, y), or nobody.
+// The first of a lent list at (x, y) and how many are there, or nobody. From the end on: the last one met is the first.
 pub fn who(list: &[Mover], x: usize, y: usize) -> Found
     ensures { λ r. ⌜ r ≡ whoAt (now (list .entry)) x y ⌝ }
 {
-    let mut i: usize = 0;
-    while i < list.len() {
+    let mut first: usize = 0;
+    let mut number: usize = 0;
+    let mut i = list.len();
+    while 0 < i {
+        i -= 1;
         if stands_at(list[i], x, y) {
-            return Found::At(i);
+            first = i;
+            number += 1;
         }
-        i += 1;
     }
-    Found::Nobody
+    if number == 0 {
+        return Found::Nobody;
+    }
+    Found::At(first, number)
 }
 
 // The same of the first n of an array, of all where n is more.
