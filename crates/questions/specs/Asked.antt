@@ -1,14 +1,15 @@
--- Calls 7 and 26 of a trace: x 8, y 8, then the creatures; the index in 8 bytes, nothing for nobody.
+-- Calls 7 and 26 of a trace: x 8, y 8, then the creatures; the index and the number in 8 bytes each, nothing for nobody.
 use mathlib.Core.Bool.{cond}
 use mathlib.Core.List.{List, []}
-use Prim.Native.Nat.{ℕ, _%_}
+use Prim.Native.Nat.{ℕ, _+_, _^_, _<_, _%_}
 use lib.Dec.{eqb, ltb}
 use lib.ListN.{length, drop}
+use Rattle.found.specs.First.{index, number}
 use Rattle.found.specs.declared.Found.{Found}
 use Rattle.found.specs.declared.Found.the-variants.{At, Nobody}
 use Rattle.mine.specs.Question as Mine
 use Rattle.cutter.specs.Question as Cutter
-use Rattle.words.specs.Numbers.{PLACE, bytesIn, wordAt}
+use Rattle.words.specs.Numbers.{PLACE, pairIn, wordAt}
 use Rattle.trace.specs.Mines.{ENEMY}
 use Rattle.trace.specs.Cutters.{MOVER}
 use Rattle.verdict.specs.Compare.{compared}
@@ -17,9 +18,20 @@ use Rattle.verdict.specs.declared.Part.{Part}
 use Rattle.verdict.specs.declared.Part.the-variants.{Unread}
 use Rattle.questions.specs.Lists.{enemiesIn, moversIn}
 
+-- what is found in a list of two parts, the second of which begins at k
+abbrev pub bothFound : Found → ℕ → Found → Found
+bothFound f k Nobody = f
+bothFound Nobody k (At j m) = At (k + j) m
+bothFound (At i n) k (At j m) = At i (n + m)
+
+-- and its values have room
+pub record Fits (f : Found) (k : ℕ) (g : Found) : Type 0 where
+  pub places : k + index g < 2 ^ 64
+  pub numbers : number f + number g < 2 ^ 64
+
 -- a question refuses nothing and leaves the state
 abbrev pub foundBytes : Found → List ℕ
-foundBytes (At i) = bytesIn PLACE i
+foundBytes (At i n) = pairIn PLACE i n
 foundBytes Nobody = []
 
 unfoldable pub foundTold : Head → (current state result : List ℕ) → Found → Part

@@ -8,7 +8,7 @@ use verdict::Head;
 use verdict::Part;
 use verdict::compared_with;
 use words::PLACE;
-use words::put_word;
+use words::put_pair;
 use words::word;
 ghost use Prim.Native.Nat.{_*_, _≤_};
 ghost use lib.ListN.{length};
@@ -18,7 +18,7 @@ ghost use mathlib.Core.Path.{_≡_};
 ghost use Rattle.mine.specs.Question as Mine;
 ghost use Rattle.cutter.specs.Question as Cutter;
 ghost use Rattle.questions.specs.Lists.{InList, enemyOr, enemiesFrom, enemiesIn, moverOr, moversFrom, moversIn};
-ghost use Rattle.questions.specs.Asked.{foundTold, mineAsked, moverAsked};
+ghost use Rattle.questions.specs.Asked.{bothFound, Fits, foundTold, mineAsked, moverAsked};
 
 // A refusal and an answer that tell nothing.
 pub const NONE: u8 = 0;
@@ -26,20 +26,23 @@ pub const NONE: u8 = 0;
 // The place that is asked for, which stands before the list.
 const BEFORE_LIST: usize = 16;
 
+// The bytes of an answer that is not nobody.
+const ANSWER: usize = 16;
+
 // A creature's bytes.
 const ENEMY: usize = 17;
 
 const MOVER: usize = 4;
 
-// The index in eight bytes, or nothing for nobody.
+// The index and the number in eight bytes each, or nothing for nobody.
 fn told(h: Head, f: Found, current: &[u8], state: &[u8], result: &[u8]) -> Part
     ensures { λ r. ⌜ r ≡ foundTold h (now (current .entry)) (now (state .entry)) (now (result .entry)) f ⌝ }
 {
-    let Found::At(i) = f else {
+    let Found::At(i, n) = f else {
         return compared_with(h, NONE, NONE, current, current, state, b"", result);
     };
-    let mut bytes = [0u8; PLACE];
-    put_word(i as u64, PLACE, &mut bytes, 0);
+    let mut bytes = [0u8; ANSWER];
+    put_pair(i as u64, n as u64, PLACE, &mut bytes, 0);
     compared_with(h, NONE, NONE, current, current, state, &bytes, result)
 }
 
@@ -70,20 +73,33 @@ fn enemies_from(list: &[u8], n: usize, from: usize) -> [Enemy; mine_state::MAX_E
     enemies
 }
 
-// The first of the list at (x, y).
+// What is found in a list of two parts, the second of which begins at `from`.
+fn both(f: Found, from: usize, g: Found) -> Found
+    requires { ⌜ Fits f from g ⌝ }
+    ensures { λ r. ⌜ r ≡ bothFound f from g ⌝ }
+{
+    let Found::At(j, m) = g else {
+        return f;
+    };
+    let Found::At(i, n) = f else {
+        return Found::At(from + j, m);
+    };
+    Found::At(i, n + m)
+}
+
+// The first of the list at (x, y) and how many are there.
 fn mine_who(list: &[u8], x: usize, y: usize) -> Found
     ensures { λ r. ⌜ r ≡ Mine.whoAt (enemiesIn (now (list .entry))) x y ⌝ }
 {
     let n = list.len() / ENEMY;
+    let mut found = Found::Nobody;
     let mut from: usize = 0;
     while from < n {
         let part = enemies_from(list, n, from);
-        if let Found::At(i) = mine::who_of(part, n - from, x, y) {
-            return Found::At(from + i);
-        }
+        found = both(found, from, mine::who_of(part, n - from, x, y));
         from += mine_state::MAX_ENEMIES;
     }
-    Found::Nobody
+    found
 }
 
 pub fn mine_asked(h: Head, args: &[u8], current: &[u8], state: &[u8], result: &[u8]) -> Part
@@ -140,15 +156,14 @@ fn mover_who(list: &[u8], x: usize, y: usize) -> Found
     ensures { λ r. ⌜ r ≡ Cutter.whoAt (moversIn (now (list .entry))) x y ⌝ }
 {
     let n = list.len() / MOVER;
+    let mut found = Found::Nobody;
     let mut from: usize = 0;
     while from < n {
         let part = movers_from(list, n, from);
-        if let Found::At(i) = cutter::who_of(part, n - from, x, y) {
-            return Found::At(from + i);
-        }
+        found = both(found, from, cutter::who_of(part, n - from, x, y));
         from += ground::MAX_ENEMIES;
     }
-    Found::Nobody
+    found
 }
 
 pub fn mover_asked(h: Head, args: &[u8], current: &[u8], state: &[u8], result: &[u8]) -> Part

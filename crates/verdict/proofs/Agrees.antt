@@ -7,25 +7,25 @@ use native.Mathlib.Omega.{arith}
 use borrow.Author.Tests.{eqb-true}
 use lib.Dec.{eqb, ltb}
 use lib.ListN.{length}
-use Rattle.found.specs.declared.Found.{Found}
-use Rattle.found.specs.declared.Found.the-variants.{At, Nobody}
+use Rattle.verdict.specs.declared.Difference.{Difference}
+use Rattle.verdict.specs.declared.Difference.the-variants.{From, Nowhere}
 use Rattle.verdict.specs.declared.Head.{Head}
 use Rattle.verdict.specs.declared.Part.{Part}
 use Rattle.verdict.specs.declared.Part.the-variants.{Same, Refusal, Answer, State, Record, Result}
-use Rattle.verdict.specs.Compare.{RECORD, differFrom, firstDifference, placed, theirs, rewritten, foundOr, compared, Agrees}
+use Rattle.verdict.specs.Compare.{RECORD, differFrom, firstDifference, placed, theirs, rewritten, differingOr, compared, Agrees}
 
 -- runs without a difference are the same
-same-heads : (t : Bool) (k : ℕ) {x y : ℕ} {a b : List ℕ} {d : Found} → eqb x y ≡ t → cond t d (At k) ≡ Nobody → (d ≡ Nobody → a ≡ b) → x ∷ a ≡ y ∷ b
+same-heads : (t : Bool) (k : ℕ) {x y : ℕ} {a b : List ℕ} {d : Difference} → eqb x y ≡ t → cond t d (From k) ≡ Nowhere → (d ≡ Nowhere → a ≡ b) → x ∷ a ≡ y ∷ b
 same-heads true k {x} {y} q e f = ap₂ (λ (z : ℕ) (l : List ℕ). z ∷ l) (eqb-true x y q) (f e)
 same-heads false k q e f = absurd (let z : _≡_ {A = ℕ} 0 1 = cc in omega arith)
 
-none-differ : (k : ℕ) (a b : List ℕ) → differFrom k a b ≡ Nobody → a ≡ b
+none-differ : (k : ℕ) (a b : List ℕ) → differFrom k a b ≡ Nowhere → a ≡ b
 none-differ k [] [] e = refl
 none-differ k [] (y ∷ b) e = absurd (let z : _≡_ {A = ℕ} 0 1 = cc in omega arith)
 none-differ k (x ∷ a) [] e = absurd (let z : _≡_ {A = ℕ} 0 1 = cc in omega arith)
 none-differ k (x ∷ a) (y ∷ b) e = same-heads (eqb x y) k refl e (none-differ (k + 1) a b)
 
-same-runs : (a b : List ℕ) → firstDifference a b ≡ Nobody → a ≡ b
+same-runs : (a b : List ℕ) → firstDifference a b ≡ Nowhere → a ≡ b
 unfolding firstDifference
 same-runs a b e = none-differ 0 a b e
 
@@ -38,9 +38,9 @@ passed : (b : Bool) {x y : Part} → (x ≡ Same → ⊥) → cond b x y ≡ Sam
 passed true n e = absurd (n e)
 passed false n e = e
 
-not-found : (f : Found) {g : ℕ → Part} {p : Part} → ((i : ℕ) → g i ≡ Same → ⊥) → foundOr f g p ≡ Same → (f ≡ Nobody) × (p ≡ Same)
-not-found (At i) n e = absurd (n i e)
-not-found Nobody n e = (refl, e)
+no-difference : (f : Difference) {g : ℕ → Part} {p : Part} → ((i : ℕ) → g i ≡ Same → ⊥) → differingOr f g p ≡ Same → (f ≡ Nowhere) × (p ≡ Same)
+no-difference (From i) n e = absurd (n i e)
+no-difference Nowhere n e = (refl, e)
 
 no-refusal : Refusal ≡ Same → ⊥
 no-refusal e = let z : _≡_ {A = ℕ} 0 1 = cc in omega arith
@@ -71,6 +71,6 @@ unfolding compared
 agrees h current state result refusal answer ours told e =
     let a : (eqb (h .refusal) refusal ≡ true) × _ = chosen (eqb (h .refusal) refusal) no-refusal e in
     let b : (eqb (h .answer) answer ≡ true) × _ = chosen (eqb (h .answer) answer) no-answer (a .1) in
-    let c : (firstDifference (theirs current state) ours ≡ Nobody) × _ = not-found (firstDifference (theirs current state) ours) (no-placed (length ours)) (b .1) in
-    let d : (firstDifference result told ≡ Nobody) × _ = not-found (firstDifference result told) no-result (passed (rewritten current state) (no-state 0) (c .1)) in
+    let c : (firstDifference (theirs current state) ours ≡ Nowhere) × _ = no-difference (firstDifference (theirs current state) ours) (no-placed (length ours)) (b .1) in
+    let d : (firstDifference result told ≡ Nowhere) × _ = no-difference (firstDifference result told) no-result (passed (rewritten current state) (no-state 0) (c .1)) in
     record { refusals = eqb-true (h .refusal) refusal (a .0); answers = eqb-true (h .answer) answer (b .0); states = same-runs (theirs current state) ours (c .0); results = same-runs result told (d .0) }

@@ -1,13 +1,12 @@
 -- Traces: what an entry tells, against what its call gave.
-use mathlib.Core.Bool.{Bool, cond, not, _&&_}
+use mathlib.Core.Bool.{Bool, true, false, cond, not, _&&_}
 use mathlib.Core.List.{List, [], _∷_}
 use mathlib.Core.Path.{_≡_}
 use Prim.Native.Nat.{ℕ, _+_, _-_}
 use lib.Dec.{eqb, ltb}
 use lib.ListN.{length}
-use Rattle.found.specs.declared.Found.{Found}
-use Rattle.found.specs.declared.Found.the-variants.{At, Nobody}
-use Rattle.found.specs.First.{nobody}
+use Rattle.verdict.specs.declared.Difference.{Difference}
+use Rattle.verdict.specs.declared.Difference.the-variants.{From, Nowhere}
 use Rattle.verdict.specs.declared.Head.{Head}
 use Rattle.verdict.specs.declared.Part.{Part}
 use Rattle.verdict.specs.declared.Part.the-variants.{Same, Refusal, Answer, State, Record, Result}
@@ -16,14 +15,19 @@ use Rattle.verdict.specs.declared.Part.the-variants.{Same, Refusal, Answ
 abbrev pub RECORD : ℕ
 RECORD = 8
 
--- the first place where two runs of bytes differ, or nobody; the shorter's end where it is cut off; the first bytes have the place k
-abbrev pub differFrom : ℕ → List ℕ → List ℕ → Found
-differFrom k [] [] = Nobody
-differFrom k [] (y ∷ ys) = At k
-differFrom k (x ∷ xs) [] = At k
-differFrom k (x ∷ xs) (y ∷ ys) = cond (eqb x y) (differFrom (k + 1) xs ys) (At k)
+-- the first place where two runs of bytes differ, or nowhere; the shorter's end where it is cut off; the first bytes have the place k
+abbrev pub differFrom : ℕ → List ℕ → List ℕ → Difference
+differFrom k [] [] = Nowhere
+differFrom k [] (y ∷ ys) = From k
+differFrom k (x ∷ xs) [] = From k
+differFrom k (x ∷ xs) (y ∷ ys) = cond (eqb x y) (differFrom (k + 1) xs ys) (From k)
 
-unfoldable pub firstDifference : List ℕ → List ℕ → Found
+-- whether there is none
+abbrev pub nowhere : Difference → Bool
+nowhere (From i) = false
+nowhere Nowhere = true
+
+unfoldable pub firstDifference : List ℕ → List ℕ → Difference
 firstDifference a b = differFrom 0 a b
 
 -- byte i of a state of n bytes, as a part: a byte of the state, or one of the record
@@ -36,21 +40,21 @@ theirs current state = cond (eqb (length state) 0) current state
 
 -- and an unchanged one is not written
 unfoldable pub rewritten : List ℕ → List ℕ → Bool
-rewritten current state = not (eqb (length state) 0) && nobody (firstDifference state current)
+rewritten current state = not (eqb (length state) 0) && nowhere (firstDifference state current)
 
--- what is told of a place that was found, or the rest
-abbrev pub foundOr : Found → (ℕ → Part) → Part → Part
-foundOr (At i) f p = f i
-foundOr Nobody f p = p
+-- what is told of a place that differs, or the rest
+abbrev pub differingOr : Difference → (ℕ → Part) → Part → Part
+differingOr (From i) f p = f i
+differingOr Nowhere f p = p
 
 -- an entry over the current state: its refusal, answer, state, record and result against those of the call, in this order
 unfoldable pub compared : Head → (current state result : List ℕ) → (refusal answer : ℕ) → (ours told : List ℕ) → Part
 compared h current state result refusal answer ours told =
     cond (eqb (h .refusal) refusal)
     (cond (eqb (h .answer) answer)
-    (foundOr (firstDifference (theirs current state) ours) (placed (length ours))
+    (differingOr (firstDifference (theirs current state) ours) (placed (length ours))
     (cond (rewritten current state) (State 0)
-    (foundOr (firstDifference result told) Result Same)))
+    (differingOr (firstDifference result told) Result Same)))
     Answer)
     Refusal
 

@@ -1,5 +1,4 @@
 // What an entry tells, against what its call gave.
-use found::Found;
 ghost use Prim.Native.Nat.{_-_};
 ghost use mathlib.Core.Path.{_≡_};
 ghost use Rattle.verdict.specs.Compare.{firstDifference, RECORD, placed, theirs, rewritten, compared};
@@ -26,24 +25,30 @@ pub struct Head {
 // The clock marks at the end of a state.
 pub const RECORD: usize = 8;
 
+// Where two runs of bytes differ first.
+pub enum Difference {
+    From(usize),
+    Nowhere,
+}
+
 // The first place where two runs of bytes differ; the shorter's end where it is cut off.
-pub fn differs(a: &[u8], b: &[u8]) -> Found
+pub fn differs(a: &[u8], b: &[u8]) -> Difference
     ensures { λ r. ⌜ r ≡ firstDifference (now (a .entry)) (now (b .entry)) ⌝ }
 {
     let mut i: usize = 0;
     while i < a.len() {
         if b.len() <= i {
-            return Found::At(i);
+            return Difference::From(i);
         }
         if a[i] != b[i] {
-            return Found::At(i);
+            return Difference::From(i);
         }
         i += 1;
     }
     if i < b.len() {
-        return Found::At(i);
+        return Difference::From(i);
     }
-    Found::Nobody
+    Difference::Nowhere
 }
 
 // Where the record begins in a state of n bytes.
@@ -68,7 +73,7 @@ fn part_at(i: usize, n: usize) -> Part
 }
 
 // No state in the entry stands for an unchanged one.
-fn state_differs(ours: &[u8], current: &[u8], state: &[u8]) -> Found
+fn state_differs(ours: &[u8], current: &[u8], state: &[u8]) -> Difference
     ensures { λ r. ⌜ r ≡ firstDifference (theirs (now (current .entry)) (now (state .entry))) (now (ours .entry)) ⌝ }
 {
     if state.len() == 0 {
@@ -84,7 +89,7 @@ fn is_rewritten(current: &[u8], state: &[u8]) -> bool
     if state.len() == 0 {
         return false;
     }
-    if let Found::At(_) = differs(state, current) {
+    if let Difference::From(_) = differs(state, current) {
         return false;
     }
     true
@@ -110,13 +115,13 @@ pub fn compared_with(
     if h.answer != answer {
         return Part::Answer;
     }
-    if let Found::At(i) = state_differs(ours, current, state) {
+    if let Difference::From(i) = state_differs(ours, current, state) {
         return part_at(i, ours.len());
     }
     if is_rewritten(current, state) {
         return Part::State(0);
     }
-    if let Found::At(i) = differs(result, told) {
+    if let Difference::From(i) = differs(result, told) {
         return Part::Result(i);
     }
     Part::Same

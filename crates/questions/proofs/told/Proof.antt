@@ -22,11 +22,11 @@ returns : tie.Need-returns
 unfolding foundTold
 returns c = rw (c .before .before .enum-told .given .1) (c .«compared-with» .ensures)
 
-slice-aggregate-put-word : tie.Need-slice-aggregate-put-word
-slice-aggregate-put-word c = search needs
+slice-aggregate-put-pair : tie.Need-slice-aggregate-put-pair
+slice-aggregate-put-pair c = search needs
 
-put-word-requires : tie.Need-put-word-requires
-put-word-requires c κs = search needs
+put-pair-requires : tie.Need-put-pair-requires
+put-pair-requires c κs = search needs
 
 slice-aggregate-compared-with-2 : tie.Need-slice-aggregate-compared-with-2
 slice-aggregate-compared-with-2 c = search needs
@@ -36,7 +36,7 @@ compared-with-requires-2 c κs = search needs
 
 returns-2 : tie.Need-returns-2
 unfolding foundTold
-returns-2 c = rw (c .before .before .before .before .before .before .f .given .1, ← (lays-whole refl (c .before .before .before .«put-word» .ensures))) (c .«compared-with2» .ensures)
+returns-2 c = rw (c .before .before .before .before .before .before .f .given .1, ← (lays-whole refl (c .before .before .before .«put-pair» .ensures))) (c .«compared-with2» .ensures)
 
 pub told-spec : {M : Type 1} → statement M
 told-spec =
@@ -47,8 +47,8 @@ told-spec =
     slice-aggregate-compared-with
     compared-with-requires
     returns
-    slice-aggregate-put-word
-    put-word-requires
+    slice-aggregate-put-pair
+    put-pair-requires
     slice-aggregate-compared-with-2
     compared-with-requires-2
     returns-2)
