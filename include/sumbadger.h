@@ -73,10 +73,11 @@ typedef struct {
     unsigned int second;
 } sumbadger_marks;
 
-/* Who is at a cell: found 1 and the index of the first, or found 0 and index 0. */
+/* Who is at a cell: found 1, the index of the first and the number there, or found 0, index 0 and number 0. */
 typedef struct {
     unsigned char found;
     sumbadger_size index;
+    sumbadger_size number;
 } sumbadger_found;
 
 /* A part of the caller's own frame. */
@@ -150,7 +151,7 @@ sumbadger_mine_passed sumbadger_mine_pass(sumbadger_mine game, const unsigned ch
 /* The picture, into a frame of 1,024 bytes; gives the refusal, 1 to 4 or 6. A refused call leaves every byte of the frame. */
 unsigned char sumbadger_mine_render(sumbadger_mine game, unsigned char *frame, sumbadger_size frame_length);
 
-/* The first of the list at (x, y). */
+/* The first of the list at (x, y), and how many of it are there. */
 sumbadger_found sumbadger_mine_who(sumbadger_enemies list, sumbadger_size x, sumbadger_size y);
 
 /* ---- Block Cutter */
@@ -238,14 +239,14 @@ unsigned char sumbadger_cutter_render(sumbadger_cutter game, unsigned char *fram
 /* The ground report. Refusals: 1 to 4. */
 sumbadger_ground sumbadger_cutter_ground_report(sumbadger_cutter game);
 
-/* The first of the list at (x, y). */
+/* The first of the list at (x, y), and how many of it are there. */
 sumbadger_found sumbadger_cutter_who(sumbadger_movers list, sumbadger_size x, sumbadger_size y);
 
 /* ---- the layout that the archive has, on x86-64 and on Arm of 64 bits */
 
 #define SUMBADGER_HAS_SIZE(type, bytes) typedef char type##_has_its_size[sizeof(type) == (bytes) ? 1 : -1]
 SUMBADGER_HAS_SIZE(sumbadger_marks, 8);
-SUMBADGER_HAS_SIZE(sumbadger_found, 16);
+SUMBADGER_HAS_SIZE(sumbadger_found, 24);
 SUMBADGER_HAS_SIZE(sumbadger_part, 16);
 SUMBADGER_HAS_SIZE(sumbadger_mine, 904);
 SUMBADGER_HAS_SIZE(sumbadger_mine_answer, 912);

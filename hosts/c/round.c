@@ -54,6 +54,9 @@ static void gave_marks(void) {
 static void gave_found(sumbadger_found f) {
     put_number(f.found);
     put_number(f.index);
+    if (f.found != 0) {
+        put_number(f.number);
+    }
 }
 
 static void gave_picture(unsigned char refusal, sumbadger_size length) {

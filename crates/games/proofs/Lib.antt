@@ -7,3 +7,4 @@ pub mod Engines
 pub mod CutterCalls
 pub mod CutterAccounts
 pub mod WrongPorts
+pub mod Several

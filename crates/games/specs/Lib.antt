@@ -6,3 +6,4 @@ pub mod CutterCalls
 pub mod CutterAccounts
 pub mod WrongPorts
 pub mod Engines
+pub mod Several

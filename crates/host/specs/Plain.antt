@@ -2,16 +2,15 @@
 use mathlib.Core.Bool.{_&&_, cond}
 use Prim.Native.Nat.{ℕ, _*_}
 use lib.Dec.{eqb, ltb}
+use Rattle.found.specs.First.{nobody, index, number}
 use Rattle.found.specs.declared.Found.{Found}
-use Rattle.found.specs.declared.Found.the-variants.{At, Nobody}
 use Rattle.frame.specs.Frame.{PAGES, PAGE-LEN, FRAME-LEN}
 use Rattle.host.specs.declared.plain_calls.HostFound.{HostFound}
 use Rattle.host.specs.declared.plain_calls.HostPage.{HostPage}
 
--- found 1 and the index, or found 0 and index 0
+-- found 1, or 0 for nobody, and the answer's index and number
 abbrev pub foundOf : Found → HostFound
-foundOf (At i) = record { found = 1; index = i }
-foundOf Nobody = record { found = 0; index = 0 }
+foundOf f = record { found = cond (nobody f) 0 1; index = index f; number = number f }
 
 -- page p of a frame of so many bytes; the empty part for a number above 7 or a wrong length
 unfoldable pub pageAt : ℕ → ℕ → HostPage

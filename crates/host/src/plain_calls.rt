@@ -8,11 +8,12 @@ ghost use mathlib.Core.Path.{_≡_};
 ghost use Rattle.pace.specs.Pace.{started};
 ghost use Rattle.host.specs.Plain.{foundOf, pageAt};
 
-// Who is at a cell: found 1 and the index of the first, or found 0 and index 0.
+// Who is at a cell: found 1, the index of the first and the number there, or found 0, index 0 and number 0.
 #[repr(C)]
 pub struct HostFound {
     pub found: u8,
     pub index: usize,
+    pub number: usize,
 }
 
 // A part of the caller's own frame.
@@ -27,8 +28,16 @@ pub fn found_of(f: Found) -> HostFound
     ensures { λ r. ⌜ r ≡ foundOf f ⌝ }
 {
     match f {
-        Found::At(i) => HostFound { found: 1, index: i },
-        Found::Nobody => HostFound { found: 0, index: 0 },
+        Found::At(i, n) => HostFound {
+            found: 1,
+            index: i,
+            number: n,
+        },
+        Found::Nobody => HostFound {
+            found: 0,
+            index: 0,
+            number: 0,
+        },
     }
 }
 
