@@ -11,7 +11,7 @@ use borrow.Author.Tests.{ne-eqb}
 use Rattle.laws.specs.Lists.{any, count}
 use Rattle.laws.proofs.Lists.{drop-one}
 use Rattle.laws.proofs.Counts.{count-le}
-use Rattle.found.specs.First.{firstFrom, first, nobody, number, numbered}
+use Rattle.found.specs.First.{firstFrom, first, nobody, index, number, numbered}
 use Rattle.found.specs.declared.Found.{Found}
 use Rattle.found.specs.declared.Found.the-variants.{At, Nobody}
 
@@ -38,7 +38,7 @@ from-bound test k i m (a ∷ l) e = pick-bound (test a) k i (count test (a ∷ l
 pub first-bound : {A : Type 0} (test : A → Bool) (i m : ℕ) (l : List A) → first test l ≡ At i m → i < length l
 first-bound test i m l e = omega (arith, from-bound test 0 i m l e)
 
--- and has no number below the one that the search began with
+-- and has no index below the one that the search began with
 pub from-least : {A : Type 0} (test : A → Bool) (k i m : ℕ) (l : List A) → firstFrom test k l ≡ At i m → k ≤ i
 from-least test k i m [] e = let z : _≡_ {A = ℕ} 0 1 = cc in omega arith
 from-least test k i m (a ∷ l) e = go (test a) (from-least test (k + 1) i m l) e
@@ -59,31 +59,7 @@ from-nobody test k (a ∷ l) = go (test a) (from-nobody test (k + 1) l)
 pub nobody-any : {A : Type 0} (test : A → Bool) (l : List A) → nobody (first test l) ≡ not (any test l)
 nobody-any test l = from-nobody test 0 l
 
--- the number that is told is how many pass
-pub from-number : {A : Type 0} (test : A → Bool) (k : ℕ) (l : List A) → number (firstFrom test k l) ≡ count test l
-from-number test k [] = refl
-from-number test k (a ∷ l) = go (test a) (from-number test (k + 1) l)
-  where
-    go : (b : Bool) → number (firstFrom test (k + 1) l) ≡ count test l → number (cond b (At k (cond b (suc (count test l)) (count test l))) (firstFrom test (k + 1) l)) ≡ cond b (suc (count test l)) (count test l)
-    go true e = refl
-    go false e = e
-
-pub number-count : {A : Type 0} (test : A → Bool) (l : List A) → number (first test l) ≡ count test l
-number-count test l = from-number test 0 l
-
--- nobody is told where that is zero, and only there
-from-zero : {A : Type 0} (test : A → Bool) (k : ℕ) (l : List A) → nobody (firstFrom test k l) ≡ eqb (count test l) 0
-from-zero test k [] = refl
-from-zero test k (a ∷ l) = go (test a) (from-zero test (k + 1) l)
-  where
-    go : (b : Bool) → nobody (firstFrom test (k + 1) l) ≡ eqb (count test l) 0 → nobody (cond b (At k (count test (a ∷ l))) (firstFrom test (k + 1) l)) ≡ eqb (cond b (suc (count test l)) (count test l)) 0
-    go true e = sym (ne-eqb (suc (count test l)) 0 (λ q. omega arith))
-    go false e = e
-
-pub nobody-zero : {A : Type 0} (test : A → Bool) (l : List A) → nobody (first test l) ≡ eqb (count test l) 0
-nobody-zero test l = from-zero test 0 l
-
--- the answer of no zero, and its number
+-- what is told is the index of the first and how many pass
 pub numbered-some : (i n : ℕ) → (n ≡ 0 → ⊥) → numbered i n ≡ At i n
 numbered-some i zero h = absurd (h refl)
 numbered-some i (suc n) h = refl
@@ -91,6 +67,31 @@ numbered-some i (suc n) h = refl
 numbered-number : (i n : ℕ) → number (numbered i n) ≡ n
 numbered-number i zero = refl
 numbered-number i (suc n) = refl
+
+numbered-nobody : (i n : ℕ) → nobody (numbered i n) ≡ eqb n 0
+numbered-nobody i zero = refl
+numbered-nobody i (suc n) = sym (ne-eqb (suc n) 0 (λ q. omega arith))
+
+from-numbered : {A : Type 0} (test : A → Bool) (k : ℕ) (l : List A) → firstFrom test k l ≡ numbered (index (firstFrom test k l)) (count test l)
+from-numbered test k [] = refl
+from-numbered test k (a ∷ l) = go (test a) (from-numbered test (k + 1) l)
+  where
+    go : (b : Bool) → firstFrom test (k + 1) l ≡ numbered (index (firstFrom test (k + 1) l)) (count test l)
+        → let n = cond b (suc (count test l)) (count test l) in
+        cond b (At k n) (firstFrom test (k + 1) l) ≡ numbered (index (cond b (At k n) (firstFrom test (k + 1) l))) n
+    go true e = refl
+    go false e = e
+
+-- so the number is how many pass
+pub from-number : {A : Type 0} (test : A → Bool) (k : ℕ) (l : List A) → number (firstFrom test k l) ≡ count test l
+from-number test k l = ap number (from-numbered test k l) ∙ numbered-number (index (firstFrom test k l)) (count test l)
+
+pub number-count : {A : Type 0} (test : A → Bool) (l : List A) → number (first test l) ≡ count test l
+number-count test l = from-number test 0 l
+
+-- and nobody is told where that is zero, and only there
+pub nobody-zero : {A : Type 0} (test : A → Bool) (l : List A) → nobody (first test l) ≡ eqb (count test l) 0
+nobody-zero test l = ap nobody (from-numbered test 0 l) ∙ numbered-nobody (index (first test l)) (count test l)
 
 -- A loop over a list from its end: of what is left from i on, f is the first, and n pass.
 module _ {A : Type 0} (test : A → Bool) (l : List A) (i f n : ℕ) (e : numbered f n ≡ firstFrom test i (drop i l)) where

@@ -73,7 +73,8 @@ module _ (xs ys ds : List ℕ) (hx : length xs ≡ MAX-ENEMIES) (hy : length ys 
       let v : length ds ≡ length xs = hd ∙ sym hx in
       rw⁻¹ (joined-at xs ys ds i u v) (taken-one n (joined xs ys ds) i blankSlot k (omega (arith, length-joined xs ys ds u v)))
 
-  pub slot-here : {R : Found} → standsAt x y here ≡ true → firstFrom (standsAt x y) i (drop i (take n (joined xs ys ds))) ≡ R → numbered i (count (standsAt x y) (drop i (take n (joined xs ys ds)))) ≡ R
+  pub slot-here : {R : Found} → standsAt x y here ≡ true → firstFrom (standsAt x y) i (drop i (take n (joined xs ys ds))) ≡ R
+      → numbered i (count (standsAt x y) (drop i (take n (joined xs ys ds)))) ≡ R
   slot-here {R} t e = go (ltb i n) refl
     where
       go : (b : Bool) → ltb i n ≡ b → numbered i (count (standsAt x y) (drop i (take n (joined xs ys ds)))) ≡ R
@@ -90,10 +91,12 @@ module _ (xs ys ds : List ℕ) (hx : length xs ≡ MAX-ENEMIES) (hy : length ys 
           rw (taken-end n (joined xs ys ds) (i + 1) (omega arith)) (first-none (standsAt x y) (take n (joined xs ys ds)) i (taken-end n (joined xs ys ds) i k) e)
 
   -- and how many there are, k so far
-  pub slot-hit : (k : ℕ) {R : ℕ} → i < n → standsAt x y here ≡ true → k + count (standsAt x y) (drop i (take n (joined xs ys ds))) ≡ R → k + 1 + count (standsAt x y) (drop (i + 1) (take n (joined xs ys ds))) ≡ R
+  pub slot-hit : (k : ℕ) {R : ℕ} → i < n → standsAt x y here ≡ true → k + count (standsAt x y) (drop i (take n (joined xs ys ds))) ≡ R
+      → k + 1 + count (standsAt x y) (drop (i + 1) (take n (joined xs ys ds))) ≡ R
   slot-hit k l t e = count-hit (standsAt x y) (take n (joined xs ys ds)) i k (next l) e t
 
-  pub slot-miss : (k : ℕ) {R : ℕ} → i < n → standsAt x y here ≡ false → k + count (standsAt x y) (drop i (take n (joined xs ys ds))) ≡ R → k + count (standsAt x y) (drop (i + 1) (take n (joined xs ys ds))) ≡ R
+  pub slot-miss : (k : ℕ) {R : ℕ} → i < n → standsAt x y here ≡ false → k + count (standsAt x y) (drop i (take n (joined xs ys ds))) ≡ R
+      → k + count (standsAt x y) (drop (i + 1) (take n (joined xs ys ds))) ≡ R
   slot-miss k l t e = count-miss (standsAt x y) (take n (joined xs ys ds)) i k (next l) e t
 
 pub slot-none : (xs ys ds : List ℕ) (n i x y : ℕ) {R : Found} → n ≤ i → firstFrom (standsAt x y) i (drop i (take n (joined xs ys ds))) ≡ R → Nobody ≡ R

@@ -64,11 +64,13 @@ there x y d q =
     (sym (eqb-true (d .x) x (and-left (eqb (d .x) x) (eqb (d .y) y) q)), sym (eqb-true (d .y) y (and-right (eqb (d .x) x) (eqb (d .y) y) q)))
 
 -- whoever is found on a cell is the only one there: where it goes, and v takes its slot, nobody is left
-pub found-gone : (x y k j m : ℕ) (p : List Enemy) (v : Enemy) → apart (p ++ (v ∷ [])) ≡ true → firstFrom (standsAt x y) k (p ++ (v ∷ [])) ≡ At (k + j) m → any (standsAt x y) (set p j v) ≡ false
+pub found-gone : (x y k j m : ℕ) (p : List Enemy) (v : Enemy) → apart (p ++ (v ∷ [])) ≡ true → firstFrom (standsAt x y) k (p ++ (v ∷ [])) ≡ At (k + j) m
+    → any (standsAt x y) (set p j v) ≡ false
 found-gone x y k j m [] v a e = refl
 found-gone x y k zero m (d ∷ p) v a e = go (standsAt x y d) refl e
   where
-    go : (b : Bool) → standsAt x y d ≡ b → cond b (At k (count (standsAt x y) (d ∷ p ++ (v ∷ [])))) (firstFrom (standsAt x y) (k + 1) (p ++ (v ∷ []))) ≡ At (k + 0) m → (standsAt x y v || any (standsAt x y) p) ≡ false
+    go : (b : Bool) → standsAt x y d ≡ b → cond b (At k (count (standsAt x y) (d ∷ p ++ (v ∷ [])))) (firstFrom (standsAt x y) (k + 1) (p ++ (v ∷ []))) ≡ At (k + 0) m
+        → (standsAt x y v || any (standsAt x y) p) ≡ false
     go true q e =
         let w = there x y d q in
         let n = any-last (with d) p v (apart-head d (p ++ (v ∷ [])) a) in
@@ -77,6 +79,7 @@ found-gone x y k zero m (d ∷ p) v a e = go (standsAt x y d) refl e
 found-gone x y k (suc j) m (d ∷ p) v a e =
     go (standsAt x y d) e (λ q. found-gone x y (k + 1) j m p v (apart-tail d (p ++ (v ∷ [])) a) q)
   where
-    go : (b : Bool) → cond b (At k (count (standsAt x y) (d ∷ p ++ (v ∷ [])))) (firstFrom (standsAt x y) (k + 1) (p ++ (v ∷ []))) ≡ At (k + suc j) m → (firstFrom (standsAt x y) (k + 1) (p ++ (v ∷ [])) ≡ At (k + 1 + j) m → any (standsAt x y) (set p j v) ≡ false) → (b || any (standsAt x y) (set p j v)) ≡ false
+    go : (b : Bool) → cond b (At k (count (standsAt x y) (d ∷ p ++ (v ∷ [])))) (firstFrom (standsAt x y) (k + 1) (p ++ (v ∷ []))) ≡ At (k + suc j) m
+        → (firstFrom (standsAt x y) (k + 1) (p ++ (v ∷ [])) ≡ At (k + 1 + j) m → any (standsAt x y) (set p j v) ≡ false) → (b || any (standsAt x y) (set p j v)) ≡ false
     go true e f = absurd (let z : k ≡ k + suc j = cc in omega arith)
     go false e f = let z : k + suc j ≡ k + 1 + j = omega arith in f (e ∙ ap (λ (i : ℕ). At i m) z)

@@ -25,7 +25,8 @@ pub record Keeps (P : Mine → Type 0) : Type 0 where
   -- a boulder sets dead
   pub kills : (m : Mine) → P m → P (killed m)
   -- an object falls on the creature i, which goes
-  pub squashes : (m : Mine) (x y i n : ℕ) → isObject (codeAt m x y) ≡ true → emptyAt (m .grid) x (y + 1) ≡ true → playerAt m x (y + 1) ≡ false → firstAt m x (y + 1) ≡ At i n → P m → P (carried (without m i) x y x (y + 1))
+  pub squashes : (m : Mine) (x y i n : ℕ) → isObject (codeAt m x y) ≡ true → emptyAt (m .grid) x (y + 1) ≡ true → playerAt m x (y + 1) ≡ false → firstAt m x (y + 1) ≡ At i n → P m
+      → P (carried (without m i) x y x (y + 1))
 
 is-free : (m : Mine) (x y : ℕ) → emptyAt (m .grid) x y ≡ true → playerAt m x y ≡ false → firstAt m x y ≡ Nobody → freeAt m x y ≡ true
 unfolding freeAt

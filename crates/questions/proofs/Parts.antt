@@ -51,7 +51,8 @@ module _ {A : Type 0} (test : A → Bool) where
   joins d (a ∷ s) t = let p : d + suc (length s) ≡ d + 1 + length s = omega arith in rw p (go (test a) refl (joins (d + 1) s t))
     where
       go : (b : Bool) → test a ≡ b → firstFrom test (d + 1) (s ++ t) ≡ bothFound (firstFrom test (d + 1) s) (d + 1 + length s) (first test t)
-          → cond b (At d (count test (a ∷ s ++ t))) (firstFrom test (d + 1) (s ++ t)) ≡ bothFound (cond b (At d (count test (a ∷ s))) (firstFrom test (d + 1) s)) (d + 1 + length s) (first test t)
+          → cond b (At d (count test (a ∷ s ++ t))) (firstFrom test (d + 1) (s ++ t)) ≡ bothFound (cond b (At d (count test (a ∷ s))) (firstFrom test (d + 1) s)) (d + 1 + length s)
+          (first test t)
       go true q e =
           ap (At d) (count-append test (a ∷ s) t ∙ ap (λ (n : ℕ). count test (a ∷ s) + n) (sym (number-count test t)))
           ∙ sym (both-number d (count test (a ∷ s)) (d + 1 + length s) (first test t))

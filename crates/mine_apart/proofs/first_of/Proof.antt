@@ -45,7 +45,8 @@ returns c =
     let k = c .before .before .before .before .before .before in
     let a = k .before .args in
     let p = k .before .pre in
-    λ ds l. c .numbered .ensures ∙ ap (numbered (k .loop .i)) (c .before .«number-from» .ensures ds l) ∙ slot-here (a .xs .now) (a .ys .now) ds (p .across) (p .down) l (a .count) (k .loop .i) (a .x) (a .y) (omega (arith, p .few)) (c .before .before .if1 .taken) (k .loop .inv .1 ds l)
+    λ ds l. c .numbered .ensures ∙ ap (numbered (k .loop .i)) (c .before .«number-from» .ensures ds l) ∙ slot-here (a .xs .now) (a .ys .now) ds (p .across) (p .down) l (a .count)
+    (k .loop .i) (a .x) (a .y) (omega (arith, p .few)) (c .before .before .if1 .taken) (k .loop .inv .1 ds l)
 
 add-i : tie.Need-add-i Inv-loop μ-loop
 add-i c = omega (arith, c .before .before .before .before .before .pre .few)

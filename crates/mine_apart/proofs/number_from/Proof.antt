@@ -14,7 +14,8 @@ use Rattle.mine_apart.proofs.number_from.Tie as tie
 
 abbrev Inv-loop : tie.InvT-loop
 Inv-loop xs ys from count x y n₀ i₀ n i =
-    (n ≤ i) × ((ds : List ℕ) → length ds ≡ MAX-ENEMIES → n + L.count (standsAt x y) (drop i (take count (joined xs ys ds))) ≡ L.count (standsAt x y) (drop from (take count (joined xs ys ds))))
+    (n ≤ i) × ((ds : List ℕ) → length ds ≡ MAX-ENEMIES → n + L.count (standsAt x y) (drop i (take count (joined xs ys ds))) ≡ L.count (standsAt x y)
+    (drop from (take count (joined xs ys ds))))
 
 abbrev μ-loop : tie.MeasureT-loop
 μ-loop xs ys from count x y n₀ i₀ n i = count - i
@@ -52,8 +53,16 @@ loop-again c =
     let n = k .loop .n in
     let b : i < MAX-ENEMIES = omega (arith, p .few) in
     ⊎-elim
-    (λ w. (omega (arith, w .1), λ ds l. rw (w .1) (slot-hit (a .xs .now) (a .ys .now) ds (p .across) (p .down) l (a .count) i (a .x) (a .y) b n (omega arith) (w .0 .taken) (k .loop .inv .1 ds l))))
-    (λ w. (omega (arith, w .1), λ ds l. rw (w .1) (slot-miss (a .xs .now) (a .ys .now) ds (p .across) (p .down) l (a .count) i (a .x) (a .y) b n (omega arith) (w .0 .left) (k .loop .inv .1 ds l))))
+    (λ w. (
+      omega (arith, w .1),
+      λ ds l. rw (w .1)
+          (slot-hit (a .xs .now) (a .ys .now) ds (p .across) (p .down) l (a .count) i (a .x) (a .y) b n (omega arith) (w .0 .taken) (k .loop .inv .1 ds l)),
+    ))
+    (λ w. (
+      omega (arith, w .1),
+      λ ds l. rw (w .1)
+          (slot-miss (a .xs .now) (a .ys .now) ds (p .across) (p .down) l (a .count) i (a .x) (a .y) b n (omega arith) (w .0 .left) (k .loop .inv .1 ds l)),
+    ))
     (c .if1 .came)
 
 returns : tie.Need-returns Inv-loop μ-loop

@@ -36,7 +36,8 @@ compared-with-requires-2 c κs = search needs
 
 returns-2 : tie.Need-returns-2
 unfolding foundTold
-returns-2 c = rw (c .before .before .before .before .before .before .f .given .1, ← (lays-whole refl (c .before .before .before .«put-pair» .ensures))) (c .«compared-with2» .ensures)
+returns-2 c = rw (c .before .before .before .before .before .before .f .given .1, ← (lays-whole refl (c .before .before .before .«put-pair» .ensures)))
+    (c .«compared-with2» .ensures)
 
 pub told-spec : {M : Type 1} → statement M
 told-spec =

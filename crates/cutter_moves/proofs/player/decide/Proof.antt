@@ -72,8 +72,11 @@ asked f c es n = f .enemy-at .ensures ∙ ap₂ (λ (k : ℕ) (l : List Mover). 
 returns-3 : tie.Need-returns-3
 returns-3 c =
     let f = c .before .before in
-    let k = f .before .before in
-    (λ m p es n. died p ∙ step-killed m (way k p .0) (k .diagonal-of .result) (way k p .1) (f .enemy-at .result) (f .before .if2 .left) (asked f m es n) (c .enum-told .given .1), k .before .before .before .before .before .before .before .pre .here)
+    let k = f .before .before in (
+      λ m p es n. died p ∙ step-killed m (way k p .0) (k .diagonal-of .result) (way k p .1) (f .enemy-at .result) (f .before .if2 .left) (asked f m es n)
+          (c .enum-told .given .1),
+      k .before .before .before .before .before .before .before .pre .here,
+    )
 
 enum-told-2 : tie.Need-enum-told-2
 enum-told-2 c = search needs
