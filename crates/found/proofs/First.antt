@@ -11,7 +11,7 @@ use borrow.Author.Tests.{ne-eqb}
 use Rattle.laws.specs.Lists.{any, count}
 use Rattle.laws.proofs.Lists.{drop-one}
 use Rattle.laws.proofs.Counts.{count-le}
-use Rattle.found.specs.First.{firstFrom, first, nobody, index, number, numbered}
+use Rattle.found.specs.First.{firstFrom, first, nobody, index, number}
 use Rattle.found.specs.declared.Found.{Found}
 use Rattle.found.specs.declared.Found.the-variants.{At, Nobody}
 
@@ -59,8 +59,12 @@ from-nobody test k (a ∷ l) = go (test a) (from-nobody test (k + 1) l)
 pub nobody-any : {A : Type 0} (test : A → Bool) (l : List A) → nobody (first test l) ≡ not (any test l)
 nobody-any test l = from-nobody test 0 l
 
--- what is told is the index of the first and how many pass
-pub numbered-some : (i n : ℕ) → (n ≡ 0 → ⊥) → numbered i n ≡ At i n
+-- the answer of an index and a number
+abbrev pub numbered : ℕ → ℕ → Found
+numbered i zero = Nobody
+numbered i (suc n) = At i (suc n)
+
+numbered-some : (i n : ℕ) → (n ≡ 0 → ⊥) → numbered i n ≡ At i n
 numbered-some i zero h = absurd (h refl)
 numbered-some i (suc n) h = refl
 
@@ -72,6 +76,7 @@ numbered-nobody : (i n : ℕ) → nobody (numbered i n) ≡ eqb n 0
 numbered-nobody i zero = refl
 numbered-nobody i (suc n) = sym (ne-eqb (suc n) 0 (λ q. omega arith))
 
+-- what is told is the index of the first and how many pass
 from-numbered : {A : Type 0} (test : A → Bool) (k : ℕ) (l : List A) → firstFrom test k l ≡ numbered (index (firstFrom test k l)) (count test l)
 from-numbered test k [] = refl
 from-numbered test k (a ∷ l) = go (test a) (from-numbered test (k + 1) l)

@@ -1,7 +1,7 @@
 -- The first of a list that passes a test and how many pass, as both games ask it of their creatures.
 use mathlib.Core.Bool.{Bool, true, false, cond}
 use mathlib.Core.List.{List, [], _∷_}
-use Prim.Native.Nat.{ℕ, zero, suc, _+_}
+use Prim.Native.Nat.{ℕ, _+_}
 use Rattle.laws.specs.Lists.{count}
 use Rattle.found.specs.declared.Found.{Found}
 use Rattle.found.specs.declared.Found.the-variants.{At, Nobody}
@@ -18,11 +18,6 @@ index Nobody = 0
 abbrev pub number : Found → ℕ
 number (At i n) = n
 number Nobody = 0
-
--- the answer of an index and a number
-abbrev pub numbered : ℕ → ℕ → Found
-numbered i zero = Nobody
-numbered i (suc n) = At i (suc n)
 
 -- the index of the first that passes and how many pass from there on, where the list's first has the index k
 abbrev pub firstFrom : {A : Type 0} → (A → Bool) → ℕ → List A → Found

@@ -1,21 +1,19 @@
 -- Creatures and the lists of their parts. Assumes nothing.
-use mathlib.Core.Bool.{Bool, true, false}
+use mathlib.Core.Bool.{true, false}
 use mathlib.Core.List.{List, [], _∷_, map}
 use mathlib.Core.Path.{_≡_, refl, sym, _∙_, ap}
 use Prim.Native.Nat.{ℕ, zero, suc, _+_, _<_, _≤_}
+use native.Mathlib.Numerals.{add-one}
 use native.Mathlib.Omega.{arith}
-use lib.Dec.{ltb}
 use lib.ListN.{length, length-map, getD, set, take, drop}
-use borrow.Author.Tests.{ltb-true, ltb-false}
 use Rattle.laws.proofs.Lists.{taken-one, taken-end, count-hit, count-miss}
 use Rattle.laws.specs.Lists.{count}
-use Rattle.found.specs.First.{firstFrom, numbered}
-use Rattle.found.specs.declared.Found.{Found}
-use Rattle.found.specs.declared.Found.the-variants.{Nobody}
-use Rattle.found.proofs.First.{first-more, first-none}
+use Rattle.found.specs.First.{firstFrom, first}
+use Rattle.found.specs.declared.Found.the-variants.{At, Nobody}
+use Rattle.found.proofs.First.{first-here, first-more, first-none}
 use Rattle.mine_state.specs.declared.Enemy.{Enemy}
 use Rattle.mine_state.specs.State.{MAX-ENEMIES, standsAt, blankSlot}
-use Rattle.mine_apart.specs.Apart.{xOf, yOf, dirOf, joined, Apart}
+use Rattle.mine_apart.specs.Apart.{xOf, yOf, dirOf, joined, holds, Apart, FirstSlot}
 
 -- taken apart and put together
 pub joined-parts : (es : List Enemy) → joined (map xOf es) (map yOf es) (map dirOf es) ≡ es
@@ -62,42 +60,41 @@ module _ (es : List Enemy) {xs ys ds : List ℕ} where
   apart-of l a b c =
       record { across = rw a (length-map es xOf ∙ l); down = rw b (length-map es yOf ∙ l); ways = rw c (length-map es dirOf ∙ l) }
 
--- A loop over the slots: of the first n creatures, the first of what is left is R.
-module _ (xs ys ds : List ℕ) (hx : length xs ≡ MAX-ENEMIES) (hy : length ys ≡ MAX-ENEMIES) (hd : length ds ≡ MAX-ENEMIES) (n i x y : ℕ) (h : i < MAX-ENEMIES) where
+-- A slot of the first n creatures.
+module _ (xs ys ds : List ℕ) (hx : length xs ≡ MAX-ENEMIES) (hy : length ys ≡ MAX-ENEMIES) (hd : length ds ≡ MAX-ENEMIES) (n i x y : ℕ) (h : i < MAX-ENEMIES) (k : i < n) where
   abbrev here : Enemy
   here = record { x = getD xs i 0; y = getD ys i 0; dir = getD ds i 0 }
 
-  next : i < n → drop i (take n (joined xs ys ds)) ≡ here ∷ drop (i + 1) (take n (joined xs ys ds))
-  next k =
+  next : drop i (take n (joined xs ys ds)) ≡ here ∷ drop (i + 1) (take n (joined xs ys ds))
+  next =
       let u : length ys ≡ length xs = hy ∙ sym hx in
       let v : length ds ≡ length xs = hd ∙ sym hx in
       rw⁻¹ (joined-at xs ys ds i u v) (taken-one n (joined xs ys ds) i blankSlot k (omega (arith, length-joined xs ys ds u v)))
 
-  pub slot-here : {R : Found} → standsAt x y here ≡ true → firstFrom (standsAt x y) i (drop i (take n (joined xs ys ds))) ≡ R
-      → numbered i (count (standsAt x y) (drop i (take n (joined xs ys ds)))) ≡ R
-  slot-here {R} t e = go (ltb i n) refl
-    where
-      go : (b : Bool) → ltb i n ≡ b → numbered i (count (standsAt x y) (drop i (take n (joined xs ys ds)))) ≡ R
-      go true q = let h = next (ltb-true i n q) in rw (h, t) (rw (h, t) at e)
-      go false q = let h = taken-end n (joined xs ys ds) i (ltb-false i n q) in rw h (rw h at e)
+  -- a loop that counts: m so far
+  pub slot-hit : (m : ℕ) {R : ℕ} → holds xs ys x y i ≡ true → m + count (standsAt x y) (drop i (take n (joined xs ys ds))) ≡ R
+      → m + 1 + count (standsAt x y) (drop (i + 1) (take n (joined xs ys ds))) ≡ R
+  slot-hit m t e = count-hit (standsAt x y) (take n (joined xs ys ds)) i m next e t
 
-  pub slot-more : {R : Found} → standsAt x y here ≡ false → firstFrom (standsAt x y) i (drop i (take n (joined xs ys ds))) ≡ R → firstFrom (standsAt x y) (i + 1) (drop (i + 1) (take n (joined xs ys ds))) ≡ R
-  slot-more {R} t e = go (ltb i n) refl
-    where
-      go : (b : Bool) → ltb i n ≡ b → firstFrom (standsAt x y) (i + 1) (drop (i + 1) (take n (joined xs ys ds))) ≡ R
-      go true q = first-more (standsAt x y) (take n (joined xs ys ds)) i (next (ltb-true i n q)) e t
-      go false q =
-          let k = ltb-false i n q in
-          rw (taken-end n (joined xs ys ds) (i + 1) (omega arith)) (first-none (standsAt x y) (take n (joined xs ys ds)) i (taken-end n (joined xs ys ds) i k) e)
+  pub slot-miss : (m : ℕ) {R : ℕ} → holds xs ys x y i ≡ false → m + count (standsAt x y) (drop i (take n (joined xs ys ds))) ≡ R
+      → m + count (standsAt x y) (drop (i + 1) (take n (joined xs ys ds))) ≡ R
+  slot-miss m t e = count-miss (standsAt x y) (take n (joined xs ys ds)) i m next e t
 
-  -- and how many there are, k so far
-  pub slot-hit : (k : ℕ) {R : ℕ} → i < n → standsAt x y here ≡ true → k + count (standsAt x y) (drop i (take n (joined xs ys ds))) ≡ R
-      → k + 1 + count (standsAt x y) (drop (i + 1) (take n (joined xs ys ds))) ≡ R
-  slot-hit k l t e = count-hit (standsAt x y) (take n (joined xs ys ds)) i k (next l) e t
+-- What the first slot at (x, y) tells.
+module _ (xs ys ds : List ℕ) (hx : length xs ≡ MAX-ENEMIES) (hy : length ys ≡ MAX-ENEMIES) (hd : length ds ≡ MAX-ENEMIES) (n x y : ℕ) (few : n ≤ MAX-ENEMIES) where
+  skipped : (i : ℕ) → i ≤ n → ((k : ℕ) → 0 ≤ k → k < i → holds xs ys x y k ≡ false)
+      → firstFrom (standsAt x y) i (drop i (take n (joined xs ys ds))) ≡ first (standsAt x y) (take n (joined xs ys ds))
+  skipped zero l u = refl
+  skipped (suc i) l u =
+      let e = skipped i (omega arith) (λ k a b. u k a (omega arith)) in
+      rw (← add-one i) (first-more (standsAt x y) (take n (joined xs ys ds)) i (next xs ys ds hx hy hd n i x y (omega arith) (omega arith)) e (u i (omega arith) (omega arith)))
 
-  pub slot-miss : (k : ℕ) {R : ℕ} → i < n → standsAt x y here ≡ false → k + count (standsAt x y) (drop i (take n (joined xs ys ds))) ≡ R
-      → k + count (standsAt x y) (drop (i + 1) (take n (joined xs ys ds))) ≡ R
-  slot-miss k l t e = count-miss (standsAt x y) (take n (joined xs ys ds)) i k (next l) e t
+  module _ {r : ℕ} (f : FirstSlot xs ys 0 n x y r) where
+    pub slot-found : r < n → At r (count (standsAt x y) (drop r (take n (joined xs ys ds)))) ≡ first (standsAt x y) (take n (joined xs ys ds))
+    slot-found l =
+        first-here (standsAt x y) (take n (joined xs ys ds)) r (next xs ys ds hx hy hd n r x y (omega arith) l) (skipped r (omega arith) (f .unmet)) (f .met l)
 
-pub slot-none : (xs ys ds : List ℕ) (n i x y : ℕ) {R : Found} → n ≤ i → firstFrom (standsAt x y) i (drop i (take n (joined xs ys ds))) ≡ R → Nobody ≡ R
-slot-none xs ys ds n i x y h e = first-none (standsAt x y) (take n (joined xs ys ds)) i (taken-end n (joined xs ys ds) i h) e
+    pub slot-none : n ≤ r → Nobody ≡ first (standsAt x y) (take n (joined xs ys ds))
+    slot-none l =
+        let e = skipped n (omega arith) (λ k a b. f .unmet k a (omega arith)) in
+        first-none (standsAt x y) (take n (joined xs ys ds)) n (taken-end n (joined xs ys ds) n (omega arith)) e

@@ -1,9 +1,10 @@
 -- Creatures taken apart: the numbers of each part in a list of its own. No promise of a public call cites it.
-use mathlib.Core.Bool.{Bool}
+use mathlib.Core.Bool.{Bool, true, false, _&&_}
 use mathlib.Core.List.{List, [], _∷_}
 use mathlib.Core.Path.{_≡_}
-use Prim.Native.Nat.{ℕ, _≤_}
-use lib.ListN.{length, take, drop}
+use Prim.Native.Nat.{ℕ, _<_, _≤_}
+use lib.Dec.{eqb}
+use lib.ListN.{length, getD, take, drop}
 use Rattle.laws.specs.Lists.{count}
 use Rattle.found.specs.First.{first}
 use Rattle.found.specs.declared.Found.{Found}
@@ -43,12 +44,19 @@ pub record Peopled (xs ys : List ℕ) (n : ℕ) : Type 0 where
   pub down : length ys ≡ MAX-ENEMIES
   pub few : n ≤ MAX-ENEMIES
 
--- and of which the first k are looked at
-pub record Looked (xs ys : List ℕ) (k n : ℕ) : Type 0 where
-  pub across : length xs ≡ MAX-ENEMIES
-  pub down : length ys ≡ MAX-ENEMIES
-  pub enough : n ≤ k
-  pub few : k ≤ MAX-ENEMIES
+-- slot k holds (x, y)
+abbrev pub holds : List ℕ → List ℕ → ℕ → ℕ → ℕ → Bool
+holds xs ys x y k = eqb (getD xs k 0) x && eqb (getD ys k 0) y
+
+-- r is the first slot that holds (x, y) from `from` on, where it is before `to`
+pub record FirstSlot (xs ys : List ℕ) (from to x y r : ℕ) : Type 0 where
+  pub unmet : (k : ℕ) → from ≤ k → k < r → holds xs ys x y k ≡ false
+  pub met : r < to → holds xs ys x y r ≡ true
+
+-- the lent places, of which the first n are creatures', and the first slot at (x, y)
+pub record Slotted (xs ys : List ℕ) (r n x y : ℕ) : Type 0 where
+  pub people : Peopled xs ys n
+  pub slot : FirstSlot xs ys 0 n x y r
 
 -- the lent cells and places
 pub record Lent (g xs ys : List ℕ) (n : ℕ) : Type 0 where

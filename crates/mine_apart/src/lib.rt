@@ -1,6 +1,5 @@
 // Block Mine's creatures taken apart into arrays of numbers, which are lent where creatures are not, and who stands where by them.
 use found::Found;
-use found::numbered;
 use mine_state::AREA;
 use mine_state::EMPTY;
 use mine_state::Enemy;
@@ -9,9 +8,9 @@ use mine_state::MAX_ENEMIES;
 use mine_state::W;
 ghost use mathlib.Core.List.{map};
 ghost use mathlib.Core.Path.{_≡_};
-ghost use Rattle.mine_apart.specs.Apart.{xOf, yOf, dirOf, joined, Apart, Peopled, Looked, Lent, Sees, Numbers, Frees};
+ghost use Rattle.mine_apart.specs.Apart.{xOf, yOf, dirOf, joined, Apart, Peopled, Lent, FirstSlot, Slotted, Sees, Numbers, Frees};
 
-// As many creatures as the level has. A loop over as many slots, or over all, is compiled without a counter.
+// As many creatures as the level has. A loop over as many slots, and one over the rest, is compiled without a counter.
 const FEW: usize = 2;
 
 pub fn xs_of(enemies: [Enemy; MAX_ENEMIES]) -> [usize; MAX_ENEMIES]
@@ -98,43 +97,65 @@ fn number_from(
     n
 }
 
-// The first creature at (x, y) and how many are there, or nobody, where no more than the first n slots hold creatures.
-fn first_of(
+// The first slot at (x, y) from `from` on and before `to`, or `to`.
+fn slot_of(
     xs: &[usize; MAX_ENEMIES],
     ys: &[usize; MAX_ENEMIES],
-    n: usize,
-    count: usize,
+    from: usize,
+    to: usize,
     x: usize,
     y: usize,
-) -> Found
-    requires { ⌜ Looked (now xs) (now ys) n count ⌝ }
-    ensures { λ r. ⌜ Sees (now (xs .entry)) (now (ys .entry)) count x y r ⌝ }
+) -> usize
+    requires { ⌜ Peopled (now xs) (now ys) to ⌝ }
+    ensures { λ r. ⌜ FirstSlot (now (xs .entry)) (now (ys .entry)) from to x y r ⌝ }
 {
-    let mut i: usize = 0;
-    while i < n {
+    let mut i = from;
+    while i < to {
         if (xs[i] == x) & (ys[i] == y) {
-            return numbered(i, number_from(xs, ys, i, count, x, y));
+            return i;
         }
         i += 1;
     }
-    Found::Nobody
+    to
 }
 
-// The first creature at (x, y) and how many are there, or nobody.
-pub fn enemy_at(
+// The first slot at (x, y), or one past the creatures. It is asked at many cells, and small enough to be inlined there.
+pub fn slot_at(
     xs: &[usize; MAX_ENEMIES],
     ys: &[usize; MAX_ENEMIES],
     count: usize,
     x: usize,
     y: usize,
-) -> Found
+) -> usize
     requires { ⌜ Peopled (now xs) (now ys) count ⌝ }
+    ensures { λ r. ⌜ FirstSlot (now (xs .entry)) (now (ys .entry)) 0 count x y r ⌝ }
+{
+    let i = slot_of(xs, ys, 0, FEW, x, y);
+    if count <= FEW {
+        return i;
+    }
+    if i < FEW {
+        return i;
+    }
+    slot_of(xs, ys, FEW, MAX_ENEMIES, x, y)
+}
+
+// The first creature at (x, y) and how many are there, or nobody, by the first slot there.
+pub fn enemy_at(
+    xs: &[usize; MAX_ENEMIES],
+    ys: &[usize; MAX_ENEMIES],
+    slot: usize,
+    count: usize,
+    x: usize,
+    y: usize,
+) -> Found
+    requires { ⌜ Slotted (now xs) (now ys) slot count x y ⌝ }
     ensures { λ r. ⌜ Sees (now (xs .entry)) (now (ys .entry)) count x y r ⌝ }
 {
-    if count <= FEW {
-        return first_of(xs, ys, FEW, count, x, y);
+    if slot < count {
+        return Found::At(slot, number_from(xs, ys, slot, count, x, y));
     }
-    first_of(xs, ys, MAX_ENEMIES, count, x, y)
+    Found::Nobody
 }
 
 // A cell an object may be pushed into: empty terrain with nobody standing on it.
@@ -164,7 +185,8 @@ pub fn free(
     if (px == x) & (py == y) {
         return false;
     }
-    if let Found::At(_, _) = enemy_at(xs, ys, count, x, y) {
+    let slot = slot_at(xs, ys, count, x, y);
+    if let Found::At(_, _) = enemy_at(xs, ys, slot, count, x, y) {
         return false;
     }
     true

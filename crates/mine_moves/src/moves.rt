@@ -5,6 +5,7 @@ use crate::ways::next_cell;
 use found::Found;
 use mine_apart::enemy_at;
 use mine_apart::free;
+use mine_apart::slot_at;
 use mine_apart::xs_of;
 use mine_apart::ys_of;
 use mine_rules::Ahead;
@@ -141,7 +142,8 @@ fn decide(
     let Ahead::Cell(x, y) = next_cell(dir, s.px, s.py) else {
         return s;
     };
-    if let Found::At(_, _) = enemy_at(xs, ys, count, x, y) {
+    let slot = slot_at(xs, ys, count, x, y);
+    if let Found::At(_, _) = enemy_at(xs, ys, slot, count, x, y) {
         let mut to = s;
         to.dead = true;
         return to;

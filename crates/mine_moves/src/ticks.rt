@@ -4,6 +4,7 @@ use found::Found;
 use mine_apart::dirs_of;
 use mine_apart::enemies_of;
 use mine_apart::enemy_at;
+use mine_apart::slot_at;
 use mine_apart::xs_of;
 use mine_apart::ys_of;
 use mine_rules::Ahead;
@@ -40,7 +41,8 @@ fn way(
     if at(grid, nx, ny) != EMPTY {
         return Step::Stays;
     }
-    if let Found::At(_, _) = enemy_at(xs, ys, count, nx, ny) {
+    let slot = slot_at(xs, ys, count, nx, ny);
+    if let Found::At(_, _) = enemy_at(xs, ys, slot, count, nx, ny) {
         return Step::Stays;
     }
     Step::Goes(Enemy {

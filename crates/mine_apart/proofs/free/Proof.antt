@@ -32,6 +32,9 @@ returns-4 c =
     let k = c .before .before .before in
     λ m ds l. simp (lt-ltb _ _ (k .before .if1 .left), lt-ltb _ _ (k .if2 .left), eq-eqb _ _ (c .before .if3 .left), c .if4 .taken)
 
+slot-at-requires : tie.Need-slot-at-requires
+slot-at-requires c κs = search needs
+
 enemy-at-requires : tie.Need-enemy-at-requires
 enemy-at-requires c κs = search needs
 
@@ -42,8 +45,15 @@ returns-5 : tie.Need-returns-5
 unfolding freeAt emptyAt
 returns-5 c =
     let f = c .before .before in
-    let k = f .before .before .before .before in
-    λ m ds l. simp (lt-ltb _ _ (k .before .if1 .left), lt-ltb _ _ (k .if2 .left), eq-eqb _ _ (f .before .before .if3 .left), f .before .if4 .left, sym (f .enemy-at .ensures ds l) ∙ c .enum-told .given .1)
+    let k = f .before .before .before .before .before in
+    λ m ds l. simp (
+      lt-ltb _ _ (k .before .if1 .left),
+      lt-ltb _ _ (k .if2 .left),
+      eq-eqb _ _ (f .before .before .before .if3 .left),
+      f .before .before .if4 .left,
+      sym
+          (f .enemy-at .ensures ds l) ∙ c .enum-told .given .1,
+    )
 
 enum-told-2 : tie.Need-enum-told-2
 enum-told-2 c = search needs
@@ -52,8 +62,15 @@ returns-6 : tie.Need-returns-6
 unfolding freeAt emptyAt
 returns-6 c =
     let f = c .before .before in
-    let k = f .before .before .before .before in
-    λ m ds l. simp (lt-ltb _ _ (k .before .if1 .left), lt-ltb _ _ (k .if2 .left), eq-eqb _ _ (f .before .before .if3 .left), f .before .if4 .left, sym (f .enemy-at .ensures ds l) ∙ c .enum-told2 .given .1)
+    let k = f .before .before .before .before .before in
+    λ m ds l. simp (
+      lt-ltb _ _ (k .before .if1 .left),
+      lt-ltb _ _ (k .if2 .left),
+      eq-eqb _ _ (f .before .before .before .if3 .left),
+      f .before .before .if4 .left,
+      sym
+          (f .enemy-at .ensures ds l) ∙ c .enum-told2 .given .1,
+    )
 
 pub free-spec : {M : Type 1} → statement M
 free-spec =
@@ -66,6 +83,7 @@ free-spec =
     element-copy-out-if3
     returns-3
     returns-4
+    slot-at-requires
     enemy-at-requires
     enum-told
     returns-5

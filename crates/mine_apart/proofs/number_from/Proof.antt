@@ -52,16 +52,17 @@ loop-again c =
     let i = k .loop .i in
     let n = k .loop .n in
     let b : i < MAX-ENEMIES = omega (arith, p .few) in
+    let h : i < a .count = omega arith in
     ⊎-elim
     (λ w. (
       omega (arith, w .1),
       λ ds l. rw (w .1)
-          (slot-hit (a .xs .now) (a .ys .now) ds (p .across) (p .down) l (a .count) i (a .x) (a .y) b n (omega arith) (w .0 .taken) (k .loop .inv .1 ds l)),
+          (slot-hit (a .xs .now) (a .ys .now) ds (p .across) (p .down) l (a .count) i (a .x) (a .y) b h n (w .0 .taken) (k .loop .inv .1 ds l)),
     ))
     (λ w. (
       omega (arith, w .1),
       λ ds l. rw (w .1)
-          (slot-miss (a .xs .now) (a .ys .now) ds (p .across) (p .down) l (a .count) i (a .x) (a .y) b n (omega arith) (w .0 .left) (k .loop .inv .1 ds l)),
+          (slot-miss (a .xs .now) (a .ys .now) ds (p .across) (p .down) l (a .count) i (a .x) (a .y) b h n (w .0 .left) (k .loop .inv .1 ds l)),
     ))
     (c .if1 .came)
 

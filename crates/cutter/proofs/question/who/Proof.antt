@@ -50,10 +50,10 @@ use denote.Triple.Walked.{says, Stays, stay-none, stay-none-slice, walkOf, goes-
 use denote.Triple.Clauses.{ensured, lasts}
 use denote.Exit.{yes}
 use Rattle.laws.proofs.Lists.{drop-end}
-use Rattle.found.specs.First.{numbered, firstFrom}
+use Rattle.found.specs.First.{firstFrom}
 use Rattle.found.specs.declared.Found.{Found}
 use Rattle.found.specs.declared.Found.the-variants.{At, Nobody}
-use Rattle.found.proofs.First.{numbered-none, numbered-told, back-room, back-here, back-more}
+use Rattle.found.proofs.First.{numbered, numbered-none, numbered-told, back-room, back-here, back-more}
 use Rattle.found.proofs.Found as F
 use Rattle.found.proofs.Found.Laws as F′
 use Rattle.ground.specs.Cells.{standsAt}

@@ -11,11 +11,15 @@ use Rattle.mine_moves.proofs.moves.decide.Reads as reads
 use Rattle.mine_moves.proofs.moves.decide.Lts as lts
 use Rattle.mine_moves.proofs.moves.meet.Reads as meet-reads
 use Rattle.mine_moves.proofs.ways.next_cell.Reads as next-cell-reads
+use Rattle.mine_apart.proofs.slot_at.Reads as slot-at-reads
 use Rattle.mine_apart.proofs.enemy_at.Reads as enemy-at-reads
 
 -- what is known once the cell ahead is on the grid
 abbrev Ahead : Type 0
-Ahead = lts.After-x (next-cell-reads.Asked, next-cell-reads.Learnt, enemy-at-reads.Asked, enemy-at-reads.Learnt, meet-reads.Asked, meet-reads.Learnt) reads.Pre reads.Post
+Ahead =
+    lts.After-x
+    (next-cell-reads.Asked, next-cell-reads.Learnt, slot-at-reads.Asked, slot-at-reads.Learnt, enemy-at-reads.Asked, enemy-at-reads.Learnt, meet-reads.Asked, meet-reads.Learnt)
+    reads.Pre reads.Post
 
 there : (b : Ahead) → OnGrid (b .x .given .0 .0) (b .x .given .0 .1 .0)
 there b =
@@ -39,6 +43,9 @@ returns c =
     let a = n .before in
     (λ m p. stayed p ∙ simp (ap (λ (t : Move). nextCell (a .args .dir) (t .px) (t .py)) (sym (p .stays)) ∙ sym (n .next-cell .ensures) ∙ c .enum-told .given .1), a .pre .inside)
 
+slot-at-requires : tie.Need-slot-at-requires
+slot-at-requires c κs = search needs
+
 enemy-at-requires : tie.Need-enemy-at-requires
 enemy-at-requires c κs = search needs
 
@@ -49,7 +56,7 @@ returns-2 : tie.Need-returns-2
 unfolding moved
 returns-2 c =
     let f = c .before .before in
-    let b = f .before .before in
+    let b = f .before .before .before in
     let n = b .before .before in
     let a = n .before in
     (λ m p. died p ∙ simp (ap (λ (t : Move). nextCell (a .args .dir) (t .px) (t .py)) (sym (p .stays)) ∙ sym (n .next-cell .ensures) ∙ b .x .given .1, sym (asked p _ _ (f .enemy-at .ensures)) ∙ c .enum-told2 .given .1), record { cell = a .pre .inside .cell; home = a .pre .inside .home })
@@ -59,14 +66,14 @@ enum-told-3 c = search needs
 
 meet-requires : tie.Need-meet-requires
 meet-requires c κs =
-    let b = c .before .before .before .before in
+    let b = c .before .before .before .before .before in
     record { lends = b .before .before .before .pre; there = there b }
 
 returns-3 : tie.Need-returns-3
 unfolding moved
 returns-3 c =
     let f = c .before .before .before in
-    let b = f .before .before in
+    let b = f .before .before .before in
     let n = b .before .before in
     let a = n .before in
     (λ m p. c .meet .ensures .0 m p ∙ simp (ap (λ (t : Move). nextCell (a .args .dir) (t .px) (t .py)) (sym (p .stays)) ∙ sym (n .next-cell .ensures) ∙ b .x .given .1, sym (asked p _ _ (f .enemy-at .ensures)) ∙ c .before .enum-told3 .given .1), c .meet .ensures .1)
@@ -79,6 +86,7 @@ decide-spec =
     enum-known-x
     enum-told
     returns
+    slot-at-requires
     enemy-at-requires
     enum-told-2
     returns-2

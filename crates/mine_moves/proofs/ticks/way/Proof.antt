@@ -11,11 +11,15 @@ use Rattle.mine_moves.proofs.ticks.way.Reads as reads
 use Rattle.mine_moves.proofs.ticks.way.Lts as lts
 use Rattle.mine_moves.proofs.ways.next_cell.Reads as next-cell-reads
 use Rattle.mine_state.proofs.at.Reads as at-reads
+use Rattle.mine_apart.proofs.slot_at.Reads as slot-at-reads
 use Rattle.mine_apart.proofs.enemy_at.Reads as enemy-at-reads
 
 -- what is known once the cell ahead is on the grid
 abbrev Ahead : Type 0
-Ahead = lts.After-nx (next-cell-reads.Asked, next-cell-reads.Learnt, at-reads.Asked, at-reads.Learnt, enemy-at-reads.Asked, enemy-at-reads.Learnt) reads.Pre reads.Post
+Ahead =
+    lts.After-nx
+    (next-cell-reads.Asked, next-cell-reads.Learnt, at-reads.Asked, at-reads.Learnt, slot-at-reads.Asked, slot-at-reads.Learnt, enemy-at-reads.Asked, enemy-at-reads.Learnt)
+    reads.Pre reads.Post
 
 there : (b : Ahead) → OnGrid (b .nx .given .0 .0) (b .nx .given .0 .1 .0)
 there b =
@@ -50,6 +54,9 @@ returns-2 c =
     λ m ds l g e k. simp (sym (n .next-cell .ensures) ∙ b .nx .given .1)
     (goes-blocked m g e k (n .before .args .dir) (b .nx .given .0 .0) (b .nx .given .0 .1 .0) (there b) (λ q. c .if1 .taken (c .before .at .ensures ∙ q)))
 
+slot-at-requires : tie.Need-slot-at-requires
+slot-at-requires c κs = search needs
+
 enemy-at-requires : tie.Need-enemy-at-requires
 enemy-at-requires c κs = search needs
 
@@ -60,10 +67,11 @@ returns-3 : tie.Need-returns-3
 unfolding wayOf
 returns-3 c =
     let f = c .before .before in
-    let b = f .before .before .before .before in
+    let b = f .before .before .before .before .before in
     let n = b .before .before in
     λ m ds l g e k. simp (sym (n .next-cell .ensures) ∙ b .nx .given .1)
-    (goes-met m g e k (n .before .args .dir) (b .nx .given .0 .0) (b .nx .given .0 .1 .0) (there b) (sym (f .before .before .at .ensures) ∙ f .before .if1 .left) (sym (f .enemy-at .ensures ds l) ∙ c .enum-told2 .given .1))
+    (goes-met m g e k (n .before .args .dir) (b .nx .given .0 .0) (b .nx .given .0 .1 .0) (there b)
+    (sym (f .before .before .before .at .ensures) ∙ f .before .before .if1 .left) (sym (f .enemy-at .ensures ds l) ∙ c .enum-told2 .given .1))
 
 enum-told-3 : tie.Need-enum-told-3
 enum-told-3 c = search needs
@@ -72,10 +80,11 @@ returns-4 : tie.Need-returns-4
 unfolding wayOf
 returns-4 c =
     let f = c .before .before in
-    let b = f .before .before .before .before in
+    let b = f .before .before .before .before .before in
     let n = b .before .before in
     λ m ds l g e k. simp (sym (n .next-cell .ensures) ∙ b .nx .given .1)
-    (goes-open m g e k (n .before .args .dir) (b .nx .given .0 .0) (b .nx .given .0 .1 .0) (there b) (sym (f .before .before .at .ensures) ∙ f .before .if1 .left) (sym (f .enemy-at .ensures ds l) ∙ c .enum-told3 .given .1))
+    (goes-open m g e k (n .before .args .dir) (b .nx .given .0 .0) (b .nx .given .0 .1 .0) (there b)
+    (sym (f .before .before .before .at .ensures) ∙ f .before .before .if1 .left) (sym (f .enemy-at .ensures ds l) ∙ c .enum-told3 .given .1))
 
 pub way-spec : {M : Type 1} → statement M
 way-spec =
@@ -87,6 +96,7 @@ way-spec =
     returns
     at-requires
     returns-2
+    slot-at-requires
     enemy-at-requires
     enum-told-2
     returns-3
