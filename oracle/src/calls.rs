@@ -1,6 +1,6 @@
 //! The public calls of documents 01 and 02 on a current state: refused by [`check`], answered by
 //! the original. The question, the page, the ground report and the start of the record are not
-//! in the original and are written from document 01.
+//! in the original and are written from document 01, the question's number from document 02 (iii).
 //!
 //! [`check`]: crate::check
 
@@ -81,10 +81,9 @@ impl State {
             Call::NewRound(draws) => Outcome::done(
                 cutter::new_round(draws).map(|c| self.game = Game::Cutter(Box::new(c))),
             ),
-            Call::MineWho { x, y, list } => found(list.iter().position(|e| (e.x, e.y) == (*x, *y))),
+            Call::MineWho { x, y, list } => found(list, |e| (e.x, e.y) == (*x, *y)),
             Call::CutterWho { x, y, list } => {
-                let place = |e: &Mover| (usize::from(e.x), usize::from(e.y));
-                found(list.iter().position(|e| place(e) == (*x, *y)))
+                found(list, |e| (usize::from(e.x), usize::from(e.y)) == (*x, *y))
             }
             Call::Start(time) => {
                 self.pace = Pace::start(*time);
@@ -132,11 +131,13 @@ fn on_cutter(c: &mut Cutter, pace: &mut Pace, call: &Call) -> Option<Outcome> {
     })
 }
 
-/// An index in eight bytes, or nothing for nobody.
-fn found(index: Option<usize>) -> Outcome {
+/// The index of the first that is there and the number of all that are, eight bytes each; nothing
+/// for nobody.
+fn found<T>(list: &[T], is_there: impl Fn(&T) -> bool) -> Outcome {
+    let there: Vec<usize> = (0..list.len()).filter(|&i| is_there(&list[i])).collect();
     let mut result = Vec::new();
-    if let Some(i) = index {
-        i.put(&mut result);
+    if let Some(&first) = there.first() {
+        [first, there.len()].put(&mut result);
     }
     Outcome::read(result)
 }

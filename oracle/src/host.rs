@@ -71,8 +71,10 @@ fn play(state: &mut State, name: &str, n: &Numbers, out: &mut String) {
         }
         Call::MinePicture(_) | Call::CutterPicture(_) => put_frame(out, &outcome),
         Call::MineWho { .. } | Call::CutterWho { .. } => {
-            let index = u64::take(&mut &outcome.result[..]);
-            put(out, &[u64::from(index.is_some()), index.unwrap_or(0)]);
+            match <[u64; 2]>::take(&mut &outcome.result[..]) {
+                Some([index, number]) => put(out, &[1, index, number]),
+                None => put(out, &[0, 0]),
+            }
         }
         Call::Ground => {
             put(out, &[outcome.refusal]);

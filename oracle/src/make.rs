@@ -15,6 +15,7 @@ pub mod mine_corners;
 pub mod mine_play;
 pub mod mine_states;
 pub mod mine_variations;
+pub mod question_corners;
 pub mod readings;
 pub mod sequences;
 pub mod variations;

@@ -1,6 +1,5 @@
 //! What was found about Block Mine, line by line.
 
-use oracle::calls::Call;
 use oracle::games::{Answer, mine};
 use oracle::lines::mines_end;
 use oracle::make::mine_corners::walled;
@@ -207,21 +206,4 @@ fn no_coin_is_ever_lost() {
     let script = "88999g7g5778989gcg5555ggcc9999ggg8888gggccc7777ggg";
     let m = mines_end(script.repeat(20).as_bytes());
     assert_eq!((m.coins as usize + m.count_of(COIN), m.count_of(BOULDER)), (38, 17));
-}
-
-#[test]
-fn the_question_is_enemy_at() {
-    let m = walled((1, 1), &[]).peopled(&[(7, 7, UP), (9, 7, RIGHT), (11, 7, DOWN)]);
-    let list = m.enemies[..m.count].to_vec();
-    let mut state = State { game: Game::Mine(Box::new(m.clone())), pace: Pace::default() };
-    let mut found = 0;
-    for (x, y) in (0..CELLS).map(|cell| (cell % W, cell / W)) {
-        let asked =
-            state.make(&Call::MineWho { x, y, list: list.clone() }).expect("a call of Mine");
-        let index = mine::enemy_at(&m, x, y);
-        let bytes = index.map(|i| (i as u64).to_le_bytes().to_vec()).unwrap_or_default();
-        assert_eq!(asked.result, bytes, "({x},{y})");
-        found += usize::from(index.is_some());
-    }
-    assert_eq!(found, 3);
 }

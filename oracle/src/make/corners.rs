@@ -4,7 +4,7 @@
 use super::variations::{Variation, causes};
 use super::{
     BAD_FRAMES, battery, cutter_corners, cutter_variations, mine_corners, mine_variations,
-    sequences,
+    question_corners, sequences,
 };
 use crate::calls::Call;
 use crate::check::{CELLS_BAD, CREATURES_BAD, NUMBERS_BAD, PLAYER_BAD};
@@ -64,6 +64,7 @@ pub fn corners() -> Corners {
     mine_corners::corners(&mut out);
     cutter_corners::corners(&mut out);
     common(&mut out);
+    question_corners::corners(&mut out);
     mine_boundaries(&mut out);
     cutter_boundaries(&mut out);
     out
@@ -83,34 +84,6 @@ fn common(out: &mut Corners) {
 
     let start = [0, u32::MAX, u32::MAX, 4_294_967_000];
     out.mine("start of the record", &mine, start.map(Call::Start).to_vec());
-
-    let list = mine.enemies.to_vec();
-    let who = |x, y, n: usize| Call::MineWho { x, y, list: list[..n].to_vec() };
-    let twice = list.iter().chain(&list).copied().collect();
-    let questions = vec![
-        who(7, 7, 8),
-        who(11, 3, 3),
-        who(11, 3, 2),
-        who(0, 0, 8),
-        who(usize::MAX, 7, 8),
-        who((1 << 32) + 7, 7, 8),
-        who(7, 7, 0),
-        Call::MineWho { x: 9, y: 9, list: twice },
-    ];
-    out.mine("question of Mine", &mine, questions);
-
-    let list = cutter.enemies.to_vec();
-    let who = |x, y, n: usize| Call::CutterWho { x, y, list: list[..n].to_vec() };
-    let long = vec![Mover { x: 255, y: 255, vx: -128, vy: 127 }; 300];
-    let questions = vec![
-        who(10, 10, 16),
-        who(20, 20, 16),
-        who(266, 10, 16),
-        who(10, 10, 0),
-        Call::CutterWho { x: 255, y: 255, list: long.clone() },
-        Call::CutterWho { x: 511, y: 255, list: long },
-    ];
-    out.cutter("question of Cutter", &cutter, questions);
 
     let frames = BAD_FRAMES;
     out.mine("Mine frames refused", &mine, frames.map(Call::MinePicture).to_vec());

@@ -200,7 +200,7 @@ pub fn spoiled(mut draws: Vec<u8>, rng: &mut Rng) -> Vec<u8> {
 /// The question on a list of any length, that holds the place or not.
 fn who(c: &Cutter, rng: &mut Rng) -> Call {
     let (x, y) = (rng.pick(&[c.px, 0, 255, 256, usize::MAX]), rng.pick(&[c.py, 0, 255, 256]));
-    let number = rng.pick(&[0, 1, 16, 17, 100]);
+    let number = rng.pick(&[0, 1, 8, 9, 16, 17, 40, 100]);
     let mut list = Vec::new();
     for _ in 0..number {
         let [x, y] = [x, y].map(|v| (v as u8).wrapping_add(rng.pick(&[0, 0, 1])));

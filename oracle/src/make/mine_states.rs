@@ -128,7 +128,7 @@ pub fn keys(command: u8, rng: &mut Rng) -> Vec<u8> {
 /// The question on a list of any length, that holds the place or not.
 fn who(m: &Mine, rng: &mut Rng) -> Call {
     let (x, y) = (rng.pick(&[m.px, 0, usize::MAX]), rng.pick(&[m.py, 0, usize::MAX]));
-    let number = rng.pick(&[0, 1, 8, 9, 40]);
+    let number = rng.pick(&[0, 1, 8, 9, 16, 17, 40]);
     let mut list = Vec::new();
     for _ in 0..number {
         let [x, y] = [x, y].map(|v| v.wrapping_add(rng.pick(&[0, 0, 1, 1 << 32])));
