@@ -1,12 +1,10 @@
 -- Who is there, and how many. Assumes nothing.
 use mathlib.Core.Path.{_≡_, refl}
-use lib.Dec.{eqb}
 use borrow.Author.Tests.{eq-eqb}
 use Rattle.laws.specs.Lists.{table}
 use Rattle.found.proofs.First.{number-count, nobody-zero}
 use Rattle.found.specs.declared.Found.the-variants.{At, Nobody}
 use Rattle.mine_state.specs.State as Mine
-use Rattle.mine_state.specs.declared.Enemy.{Enemy}
 use Rattle.mine_state.proofs.Alone.{alone}
 use Rattle.ground.specs.Cells as Cutter
 use Rattle.cutter.specs.Question.{whoAt}
