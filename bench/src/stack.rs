@@ -46,23 +46,26 @@ fn on_thread(state: Cutter, call: Call) -> Used {
 pub fn rows() {
     println!("| Cutter call | stack below it, bytes | of them written |");
     println!("|---|---|---|");
-    let calls: [(&str, Cutter, Call); 6] = [
+    let rule = |c: &Cutter, out: &mut Answer| ours::cutter_step(c, &mut out.game);
+    let calls: [(&str, Cutter, Call); 8] = [
         ("copied in and out", states::middle().remove(0), |c, out| {
             ours::cutter_copy(c, &mut out.game)
         }),
-        ("step laying line", states::laying().remove(0), ours::cutter_call_step),
-        ("closing a middle cut", states::middle().remove(0), ours::cutter_call_step),
+        ("step laying line", states::laying().remove(0), rule),
+        ("closing a middle cut", states::middle().remove(0), rule),
+        ("closing with 400 regions of a cell, and a walk", states::chequers(400).remove(0), rule),
+        ("the walk at its worst", states::far().remove(0), |c, _| _ = ours::cutter_walk(c)),
+        ("the public call, laying line", states::laying().remove(0), ours::cutter_call_step),
         (
-            "closing with 400 regions, and a walk",
-            states::chequers(400).remove(0),
+            "the public call, closing a middle cut",
+            states::middle().remove(0),
             ours::cutter_call_step,
         ),
         (
-            "closing a middle cut, by sweeps",
+            "the public call by sweeps, closing a middle cut",
             states::middle().remove(0),
             ours::cutter_call_step_by_sweeps,
         ),
-        ("the walk at its worst", states::far().remove(0), |c, _| _ = ours::cutter_walk(c)),
     ];
     for (what, state, call) in calls {
         let Used { deep, written } = on_thread(state, call);
