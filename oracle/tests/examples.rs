@@ -101,7 +101,7 @@ fn the_cases_of_mines_show_what_they_should() {
 fn the_cases_of_cuts_show_what_they_should() {
     let cases = cases(Program::Cuts, "cuts.txt");
     let has = |line: &str| cases.iter().any(|(_, last)| last == line);
-    assert_eq!(cases.len(), 44);
+    assert_eq!(cases.len(), 45);
     assert!(has("32 31 930 1118 0 1 0"), "keeps the left");
     assert!(has("6 31 1680 368 0 1 0"), "keeps the right");
     assert!(has("63 15 868 1180 0 1 0"), "keeps the upper");
@@ -109,6 +109,7 @@ fn the_cases_of_cuts_show_what_they_should() {
     assert!(has("0 4 1612 436 0 1 0"), "42 pockets, all counted");
     assert!(has("59 0 1860 188 0 1 1"), "from the border into a creature");
     assert!(has("32 28 1832 188 28 1 1"), "a creature meets the line");
+    assert!(has("32 0 0 2048 0 0 0"), "no black is left to walk to");
 }
 
 /// What `mines_cases` and `cuts_cases` read and are held to.
