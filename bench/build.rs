@@ -7,7 +7,7 @@ fn main() {
     match env::var("MEASURED") {
         Ok(folder) => {
             println!("cargo::rustc-link-search=native={folder}");
-            for name in ["calls", "measured", "measured_lent", "measured_calls"] {
+            for name in ["calls", "bench_rules", "bench_lent", "bench_calls"] {
                 println!("cargo::rerun-if-changed={folder}/lib{name}.a");
                 println!("cargo::rustc-link-lib=static={name}");
             }

@@ -1,6 +1,6 @@
 //! What the program `console script WORD` prints: a script of bytes, one to a turn, played over
 //! the public calls. The program's own part (keys, head line, draws of a word) is written here
-//! from its definitions: crates/keys, heads and turns, specs/.
+//! from its definitions: crates/console_keys, heads and turns, specs/.
 
 use crate::calls::{cutter, mine};
 use crate::check::DRAW_BOUNDS;

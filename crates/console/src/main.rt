@@ -3,9 +3,9 @@
 // up to `|`, then Block Cutter; `=` shows the screen.
 //
 // stdin, args: a play of each. stdout: what the oracle's `console_oracle WORD` prints for it.
+use console_screens::same;
+use console_turns::DRAWS;
 use libc::STDERR_FILENO;
-use screens::same;
-use turns::DRAWS;
 
 // Room for a name, and for a word.
 const WORD: usize = DRAWS;

@@ -6,8 +6,8 @@ use lib.Dec.{leb}
 use lib.IntN.{pos}
 use lib.ListN.{replicate}
 use Rattle.refusal.specs.Refusal.{NONE, COMMAND, DRAWS, unless, _then_, refusedOr}
-use Rattle.ground.specs.Cells.{CN, CB-BLACK}
-use Rattle.closing.specs.Closing.{slots}
+use Rattle.cutter_ground.specs.Cells.{CN, CB-BLACK}
+use Rattle.cutter_closing.specs.Closing.{slots}
 use Rattle.cutter_state.specs.declared.Cutter.{Cutter}
 use Rattle.cutter_state.specs.Change.{withLevel, withLives}
 use Rattle.cutter_state.specs.WellFormed.{MAX-LIVES, refusalOf}

@@ -1,18 +1,18 @@
 // The calls on a state: each checks it once, and refuses it or plays.
 use cutter_check::check;
+use cutter_ground::CB_FILLED;
+use cutter_ground::CB_TRAIL;
+use cutter_ground::CN;
+use cutter_ground::MAX_ENEMIES;
+use cutter_ground::Mover;
+use cutter_ground::black_count;
+use cutter_ground::count_of;
 use cutter_level::creatures_of;
 use cutter_level::draws_ok;
 use cutter_pass::INTERIOR;
 use cutter_rules::LEFT;
 use cutter_state::Cutter;
 use cutter_state::MAX_LIVES;
-use ground::CB_FILLED;
-use ground::CB_TRAIL;
-use ground::CN;
-use ground::MAX_ENEMIES;
-use ground::Mover;
-use ground::black_count;
-use ground::count_of;
 use refusal::Refusal;
 ghost use mathlib.Core.Path.{_≡_};
 ghost use Prim.Native.Nat.{_≤_};

@@ -1,8 +1,8 @@
 // The host's question: who is at a cell, and how many.
+use cutter_ground::MAX_ENEMIES;
+use cutter_ground::Mover;
+use cutter_ground::stands_at;
 use found::Found;
-use ground::MAX_ENEMIES;
-use ground::Mover;
-use ground::stands_at;
 ghost use mathlib.Core.Path.{_≡_};
 ghost use lib.ListN.{take};
 ghost use Rattle.cutter.specs.Question.{whoAt};

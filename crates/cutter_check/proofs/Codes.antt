@@ -10,7 +10,7 @@ use lib.ListN.{drop}
 use borrow.Author.Tests.{ltb-true, ltb-false, leb-true, le-leb, eqb-false, ne-eqb, lt-ltb, le-ltb}
 use Rattle.laws.specs.Lists.{all, any}
 use Rattle.laws.proofs.Choice.{and-left, bool-cases}
-use Rattle.ground.specs.Cells.{CB-TRAIL}
+use Rattle.cutter_ground.specs.Cells.{CB-TRAIL}
 use Rattle.cutter_state.specs.WellFormed.{isCode, isTrail}
 use Rattle.cutter_check.specs.Passes.{largestOf}
 

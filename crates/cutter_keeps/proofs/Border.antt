@@ -2,11 +2,11 @@
 use mathlib.Core.Bool.{Bool, true, false}
 use mathlib.Core.Path.{_≡_, subst}
 use native.Mathlib.Omega.{arith}
-use Rattle.ground.specs.Cells.{CB-FILLED}
-use Rattle.border.specs.Walks.{claimed}
-use Rattle.border.proofs.Reaching.{claimed-in, claimed-code, code-claimed}
-use Rattle.border.proofs.Spellings.{nearest-claimed}
-use Rattle.border.proofs.Nearest.{nearest}
+use Rattle.cutter_ground.specs.Cells.{CB-FILLED}
+use Rattle.cutter_border.specs.Walks.{claimed}
+use Rattle.cutter_border.proofs.Reaching.{claimed-in, claimed-code, code-claimed}
+use Rattle.cutter_border.proofs.Spellings.{nearest-claimed}
+use Rattle.cutter_border.proofs.Nearest.{nearest}
 use Rattle.cutter_state.specs.declared.Cutter.{Cutter}
 use Rattle.cutter_state.specs.State.{holdsAt}
 use Rattle.cutter_state.specs.WellFormed.{footing, WellFormed}

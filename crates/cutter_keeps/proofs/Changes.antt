@@ -7,8 +7,8 @@ use native.Mathlib.Omega.{arith}
 use lib.IntN.{ℤ}
 use lib.ListN.{length, take, drop}
 use Rattle.laws.specs.Lists.{all}
-use Rattle.ground.specs.Cells.{MAX-ENEMIES}
-use Rattle.ground.specs.declared.Mover.{Mover}
+use Rattle.cutter_ground.specs.Cells.{MAX-ENEMIES}
+use Rattle.cutter_ground.specs.declared.Mover.{Mover}
 use Rattle.cutter_state.specs.declared.Cutter.{Cutter}
 use Rattle.cutter_state.specs.State.{holdsAt}
 use Rattle.cutter_state.specs.Change.{withPlayer, withDirection, withCreatures, withLevel, withLives, withDead, withWon}

@@ -10,12 +10,12 @@ use borrow.Author.Tests.{eqb-true}
 use Rattle.laws.specs.Lists.{all}
 use Rattle.laws.proofs.Choice.{and-left, and-right, and-both}
 use Rattle.laws.proofs.Lists.{all-weaken}
-use Rattle.ground.specs.Cells.{CN, CB-BLACK, CB-FILLED, MAX-ENEMIES, cellAt, blackAt, cellOf}
-use Rattle.ground.specs.declared.Mover.{Mover}
-use Rattle.closing.specs.Counted.{MAX-COMP}
-use Rattle.closing.specs.Closing.{closeCut}
-use Rattle.closing.specs.declared.Cut.{Cut}
-use Rattle.closing.proofs.Sums.{claimed-after, black-after, length-after, all-after, line-after, no-line-after, claimed-stays, creatures-after, spare-after, few-after, slots-after, all-left, left-on-black}
+use Rattle.cutter_ground.specs.Cells.{CN, CB-BLACK, CB-FILLED, MAX-ENEMIES, cellAt, blackAt, cellOf}
+use Rattle.cutter_ground.specs.declared.Mover.{Mover}
+use Rattle.cutter_closing.specs.Counted.{MAX-COMP}
+use Rattle.cutter_closing.specs.Closing.{closeCut}
+use Rattle.cutter_closing.specs.declared.Cut.{Cut}
+use Rattle.cutter_closing.proofs.Sums.{claimed-after, black-after, length-after, all-after, line-after, no-line-after, claimed-stays, creatures-after, spare-after, few-after, slots-after, all-left, left-on-black}
 use Rattle.cutter_state.specs.declared.Cutter.{Cutter}
 use Rattle.cutter_state.specs.State.{creatures}
 use Rattle.cutter_state.specs.WellFormed.{isCode, moverOk, WellFormed}

@@ -9,9 +9,9 @@ use lib.Seq.{take-at, drop-at}
 use Rattle.laws.specs.Lists.{all, any}
 use Rattle.laws.proofs.Lists.{all-replicate}
 use Rattle.laws.proofs.Choice.{and-left, and-right, and-both, and-three, or-left, or-right}
-use Rattle.ground.specs.Cells.{CW, CN, CB-BLACK, MAX-ENEMIES, cellAt, cellOf}
-use Rattle.ground.specs.declared.Mover.{Mover}
-use Rattle.closing.specs.Closing.{slots, blank as zeros}
+use Rattle.cutter_ground.specs.Cells.{CW, CN, CB-BLACK, MAX-ENEMIES, cellAt, cellOf}
+use Rattle.cutter_ground.specs.declared.Mover.{Mover}
+use Rattle.cutter_closing.specs.Closing.{slots, blank as zeros}
 use Rattle.cutter_state.specs.State.{holdsAt}
 use Rattle.cutter_state.specs.WellFormed.{isUnit, moverOk, blank}
 use Rattle.cutter_state.proofs.Ring.{holds-inside, holds-code, code-holds}

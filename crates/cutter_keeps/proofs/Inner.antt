@@ -7,7 +7,7 @@ use lib.ListN.{length}
 use borrow.Author.Tests.{eqb-true, eq-eqb}
 use Rattle.laws.specs.Lists.{tally}
 use Rattle.laws.proofs.Counts.{count-mono}
-use Rattle.ground.specs.Cells.{CW, CN, CB-BLACK, CB-FILLED, cellAt}
+use Rattle.cutter_ground.specs.Cells.{CW, CN, CB-BLACK, CB-FILLED, cellAt}
 use Rattle.cutter_state.specs.declared.Cutter.{Cutter}
 use Rattle.cutter_state.specs.State.{place}
 use Rattle.cutter_state.specs.WellFormed.{WellFormed}

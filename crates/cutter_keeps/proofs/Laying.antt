@@ -11,8 +11,8 @@ use borrow.Author.Tests.{eq-eqb, eqb-false}
 use Rattle.laws.specs.Lists.{all, any, tally}
 use Rattle.laws.proofs.Lists.{getD-default, all-set, any-at}
 use Rattle.laws.proofs.Counts.{count-set, tally-lose, tally-gain}
-use Rattle.ground.specs.Cells.{CN, CB-BLACK, CB-FILLED, CB-TRAIL, cellAt, cellOf}
-use Rattle.ground.specs.declared.Mover.{Mover}
+use Rattle.cutter_ground.specs.Cells.{CN, CB-BLACK, CB-FILLED, CB-TRAIL, cellAt, cellOf}
+use Rattle.cutter_ground.specs.declared.Mover.{Mover}
 use Rattle.cutter_state.specs.declared.Cutter.{Cutter}
 use Rattle.cutter_state.specs.State.{creatures}
 use Rattle.cutter_state.specs.Change.{withTrailing}

@@ -9,7 +9,7 @@ use lib.Seq.{getD-append-add}
 use Rattle.laws.specs.Lists.{all, any, table, tally}
 use Rattle.laws.proofs.Below.{same-below}
 use Rattle.laws.proofs.Table.{length-table, all-table}
-use Rattle.ground.specs.Cells.{CW, CH, CN, CB-BLACK, CB-FILLED, CB-TRAIL, cellAt}
+use Rattle.cutter_ground.specs.Cells.{CW, CH, CN, CB-BLACK, CB-FILLED, CB-TRAIL, cellAt}
 use Rattle.cutter_state.specs.declared.Cutter.{Cutter}
 use Rattle.cutter_state.specs.State.{place, holdsAt}
 use Rattle.cutter_state.specs.WellFormed.{MAX-LIVES, MAX-LEVEL, isCode, isTrail, rowsFilled, columnsFilled, isUnit, moverOk}

@@ -7,11 +7,11 @@ use borrow.Author.Tests.{eqb-true, ltb-true}
 use lib.Dec.{ltb}
 use Rattle.laws.proofs.Choice.{and-left, and-right, and-three}
 use Rattle.found.specs.First.{nobody}
-use Rattle.ground.specs.Cells.{CW, CN, CB-FILLED, cellAt}
-use Rattle.border.specs.Nearest.{Nearest}
-use Rattle.border.proofs.Reaching.{claimed-in}
-use Rattle.border.proofs.Nearest.{nearest}
-use Rattle.border.proofs.Spellings.{nearest-unique, nearest-already, nearest-unreached}
+use Rattle.cutter_ground.specs.Cells.{CW, CN, CB-FILLED, cellAt}
+use Rattle.cutter_border.specs.Nearest.{Nearest}
+use Rattle.cutter_border.proofs.Reaching.{claimed-in}
+use Rattle.cutter_border.proofs.Nearest.{nearest}
+use Rattle.cutter_border.proofs.Spellings.{nearest-unique, nearest-already, nearest-unreached}
 use Rattle.cutter_state.specs.declared.Cutter.{Cutter}
 use Rattle.cutter_state.specs.State.{place, creatures}
 use Rattle.cutter_state.specs.WellFormed.{WellFormed}

@@ -12,7 +12,7 @@ use Rattle.laws.specs.Lists.{all, bit, tally}
 use Rattle.laws.proofs.Choice.{same?}
 use Rattle.laws.proofs.Counts.{count-map, count-plus}
 use Rattle.laws.proofs.Filter.{count-ext, all-map, all-true, count-zero, any-zero}
-use Rattle.ground.specs.Cells.{CW, CB-BLACK, CB-FILLED, CB-TRAIL, cellAt, cellOf}
+use Rattle.cutter_ground.specs.Cells.{CW, CB-BLACK, CB-FILLED, CB-TRAIL, cellAt, cellOf}
 use Rattle.cutter_state.specs.declared.Cutter.{Cutter}
 use Rattle.cutter_state.specs.State.{creatures}
 use Rattle.cutter_state.specs.Change.{withGrid}

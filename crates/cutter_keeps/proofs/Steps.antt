@@ -15,7 +15,7 @@ use Rattle.found.specs.First.{nobody}
 use Rattle.found.specs.declared.Found.{Found}
 use Rattle.found.specs.declared.Found.the-variants.{At, Nobody}
 use Rattle.found.proofs.First.{nobody-any}
-use Rattle.ground.specs.Cells.{CN, CB-BLACK, CB-FILLED, CB-TRAIL, cellAt, onBorder, cellOf}
+use Rattle.cutter_ground.specs.Cells.{CN, CB-BLACK, CB-FILLED, CB-TRAIL, cellAt, onBorder, cellOf}
 use Rattle.cutter_state.specs.declared.Cutter.{Cutter}
 use Rattle.cutter_state.specs.State.{creatures}
 use Rattle.cutter_state.specs.WellFormed.{isCode, isTrail, WellFormed}

@@ -5,14 +5,14 @@ use mathlib.Core.Path.{_≡_, refl, sym, ap, _∙_}
 use Prim.Native.Nat.{ℕ}
 use lib.ListN.{length}
 use Rattle.laws.proofs.Choice.{cond-both}
-use Rattle.ground.specs.Cells.{CN}
-use Rattle.ground.specs.declared.Mover.{Mover}
+use Rattle.cutter_ground.specs.Cells.{CN}
+use Rattle.cutter_ground.specs.declared.Mover.{Mover}
 use Rattle.cutter_sweeps.specs.Sweeps.{Settled}
 use Rattle.cutter_sweeps.proofs.Low.{settled, settled-right}
-use Rattle.closing.specs.Counted.{MAX-COMP}
-use Rattle.closing.specs.Closing.{claimLine, closed, closeCut}
-use Rattle.closing.specs.declared.Cut.{Cut}
-use Rattle.closing.proofs.Labels.{length-claimLine, closing-by}
+use Rattle.cutter_closing.specs.Counted.{MAX-COMP}
+use Rattle.cutter_closing.specs.Closing.{claimLine, closed, closeCut}
+use Rattle.cutter_closing.specs.declared.Cut.{Cut}
+use Rattle.cutter_closing.proofs.Labels.{length-claimLine, closing-by}
 use Rattle.cutter_state.specs.declared.Cutter.{Cutter}
 use Rattle.cutter_state.specs.State.{creatures}
 use Rattle.cutter_state.specs.Change.{withGrid, withCreatures, withTrailing}

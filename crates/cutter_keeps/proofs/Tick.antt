@@ -10,9 +10,9 @@ use lib.Seq.{take-at, drop-at, length-take-le}
 use borrow.Author.Tests.{eqb-true}
 use Rattle.laws.specs.Lists.{all, any}
 use Rattle.laws.proofs.Choice.{cond-both, and-left, and-right, and-both, and-three}
-use Rattle.ground.specs.Cells.{CN, CB-BLACK, cellAt, blackAt, cellOf}
-use Rattle.ground.specs.declared.Mover.{Mover}
-use Rattle.joined.proofs.Joined.{black-in}
+use Rattle.cutter_ground.specs.Cells.{CN, CB-BLACK, cellAt, blackAt, cellOf}
+use Rattle.cutter_ground.specs.declared.Mover.{Mover}
+use Rattle.cutter_joined.proofs.Joined.{black-in}
 use Rattle.cutter_state.specs.declared.Cutter.{Cutter}
 use Rattle.cutter_state.specs.State.{holdsAt, creatures, spare}
 use Rattle.cutter_state.specs.WellFormed.{isUnit, moverOk, WellFormed}

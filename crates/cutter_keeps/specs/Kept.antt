@@ -2,8 +2,8 @@
 use mathlib.Core.Path.{_≡_}
 use Prim.Native.Nat.{ℕ, _+_, _-_, _*_}
 use Rattle.laws.specs.Lists.{tally}
-use Rattle.ground.specs.Cells.{CW, CH, CB-FILLED, blackCount}
-use Rattle.closing.specs.Account.{lineOf}
+use Rattle.cutter_ground.specs.Cells.{CW, CH, CB-FILLED, blackCount}
+use Rattle.cutter_closing.specs.Account.{lineOf}
 use Rattle.cutter_state.specs.declared.Cutter.{Cutter}
 use Rattle.cutter_state.specs.WellFormed.{WellFormed}
 use Rattle.cutter_rules.specs.Level.{creaturesOf}

@@ -2,9 +2,9 @@
 use mathlib.Core.Bool.{true}
 use mathlib.Core.Path.{_≡_}
 use Prim.Native.Nat.{ℕ, _/_}
-use Rattle.ground.specs.Cells.{CW}
-use Rattle.border.specs.Walks.{claimed, Beside}
-use Rattle.border.specs.Nearest.{Unreached, Nearest}
+use Rattle.cutter_ground.specs.Cells.{CW}
+use Rattle.cutter_border.specs.Walks.{claimed, Beside}
+use Rattle.cutter_border.specs.Nearest.{Unreached, Nearest}
 use Rattle.cutter_state.specs.declared.Cutter.{Cutter}
 use Rattle.cutter_state.specs.State.{place}
 use Rattle.cutter_state.specs.WellFormed.{WellFormed}

@@ -4,9 +4,9 @@ use mathlib.Core.Path.{_≡_}
 use Prim.Native.Nat.{ℕ, _+_}
 use lib.Dec.{ltb}
 use Rattle.found.specs.First.{nobody}
-use Rattle.ground.specs.Cells.{CN, blackAt}
-use Rattle.closing.specs.Counted.{MAX-COMP}
-use Rattle.closing.specs.Account.{takenOf, goneOf}
+use Rattle.cutter_ground.specs.Cells.{CN, blackAt}
+use Rattle.cutter_closing.specs.Counted.{MAX-COMP}
+use Rattle.cutter_closing.specs.Account.{takenOf, goneOf}
 use Rattle.cutter_state.specs.declared.Cutter.{Cutter}
 use Rattle.cutter_state.specs.State.{creatures}
 use Rattle.cutter_state.specs.WellFormed.{WellFormed}

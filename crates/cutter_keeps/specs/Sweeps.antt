@@ -2,11 +2,11 @@
 use mathlib.Core.Bool.{false, cond}
 use mathlib.Core.List.{List}
 use Prim.Native.Nat.{ℕ}
-use Rattle.ground.specs.declared.Mover.{Mover}
+use Rattle.cutter_ground.specs.declared.Mover.{Mover}
 use Rattle.cutter_sweeps.proofs.Low.{settled}
-use Rattle.closing.specs.Counted.{MAX-COMP}
-use Rattle.closing.specs.Closing.{claimLine, closed}
-use Rattle.closing.specs.declared.Cut.{Cut}
+use Rattle.cutter_closing.specs.Counted.{MAX-COMP}
+use Rattle.cutter_closing.specs.Closing.{claimLine, closed}
+use Rattle.cutter_closing.specs.declared.Cut.{Cut}
 use Rattle.cutter_state.specs.declared.Cutter.{Cutter}
 use Rattle.cutter_state.specs.State.{creatures}
 use Rattle.cutter_state.specs.Change.{withGrid, withCreatures, withTrailing}

@@ -2,7 +2,7 @@
 use mathlib.Core.Path.{_≡_, refl}
 use lib.ListN.{length, replicate}
 use Rattle.laws.specs.Lists.{across}
-use Rattle.ground.specs.Cells.{CW, CH, CN, CB-BLACK}
+use Rattle.cutter_ground.specs.Cells.{CW, CH, CN, CB-BLACK}
 use Rattle.cutter_rules.specs.Level.{freshGrid}
 use Rattle.cutter_level.specs.Ring.{claimRow, claimColumn}
 

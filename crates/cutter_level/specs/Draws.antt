@@ -4,7 +4,7 @@ use mathlib.Core.List.{List}
 use mathlib.Core.Path.{_≡_}
 use Prim.Native.Nat.{ℕ, _+_, _*_, _≤_}
 use lib.ListN.{length}
-use Rattle.ground.specs.Cells.{MAX-ENEMIES}
+use Rattle.cutter_ground.specs.Cells.{MAX-ENEMIES}
 use Rattle.cutter_rules.specs.Level.{DRAWS, inRange, drawsOk}
 
 -- the four draws of a creature are there

@@ -2,7 +2,7 @@
 use mathlib.Core.List.{List}
 use Prim.Native.Nat.{ℕ, _+_, _-_, _*_}
 use lib.ListN.{set}
-use Rattle.ground.specs.Cells.{CW, CH, CB-FILLED}
+use Rattle.cutter_ground.specs.Cells.{CW, CH, CB-FILLED}
 
 -- the cell x of the first and of the last row
 unfoldable pub claimRow : List ℕ → ℕ → List ℕ

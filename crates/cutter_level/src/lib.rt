@@ -4,18 +4,18 @@ ghost use mathlib.Core.Path.{_≡_};
 ghost use Prim.Native.Nat.{_+_, _*_, _<_, _≤_};
 ghost use lib.ListN.{length};
 ghost use Rattle.laws.specs.Lists.{across};
-ghost use Rattle.ground.specs.Cells.{CN, CW, CH, MAX-ENEMIES};
+ghost use Rattle.cutter_ground.specs.Cells.{CN, CW, CH, MAX-ENEMIES};
 ghost use Rattle.cutter_rules.specs.Level.{DRAWS, freshGrid, creaturesOf, drawAt, inRange, drawsOk, velocity, drawn, drawnEnemies, atStart, freshLevel};
 ghost use Rattle.cutter_level.specs.Draws.{FourAt, DrawsAt, DrawsFor};
 ghost use Rattle.cutter_level.specs.Ring.{claimRow, claimColumn};
+use cutter_ground::CB_BLACK;
+use cutter_ground::CB_FILLED;
+use cutter_ground::CH;
+use cutter_ground::CN;
+use cutter_ground::CW;
+use cutter_ground::MAX_ENEMIES;
+use cutter_ground::Mover;
 use cutter_state::Cutter;
-use ground::CB_BLACK;
-use ground::CB_FILLED;
-use ground::CH;
-use ground::CN;
-use ground::CW;
-use ground::MAX_ENEMIES;
-use ground::Mover;
 
 // The draws of one creature: place across, place down, velocity across, velocity down.
 pub const DRAWS: usize = 4;

@@ -9,7 +9,7 @@ use mir.Val.{SFits, toZ, ofZ}
 use lib.IntN.{pos}
 use lib.ListN.{set, getD}
 use lib.Seq.{set-getD}
-use Rattle.ground.specs.Cells.{CW, cellAt, onBorder}
+use Rattle.cutter_ground.specs.Cells.{CW, cellAt, onBorder}
 use Rattle.cutter_state.specs.declared.Cutter.{Cutter}
 use Rattle.cutter_state.specs.Change.{withGrid, withTrailing, killed}
 use Rattle.cutter_rules.specs.Step.{playerCell, entered, laid, stopped, stepped}

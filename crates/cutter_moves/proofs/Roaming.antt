@@ -13,8 +13,8 @@ use borrow.Author.Tests.{eqb-true}
 use Rattle.laws.specs.Lists.{all, any}
 use Rattle.laws.proofs.Choice.{and-left, and-right, and-three}
 use Rattle.laws.proofs.Lists.{getD-default, drop-one, taken-one, taken-rest, taken-end, any-more, any-holds, any-end}
-use Rattle.ground.specs.Cells.{CN, CB-BLACK, CB-FILLED, CB-TRAIL, cellAt, cellOf}
-use Rattle.ground.specs.declared.Mover.{Mover}
+use Rattle.cutter_ground.specs.Cells.{CN, CB-BLACK, CB-FILLED, CB-TRAIL, cellAt, cellOf}
+use Rattle.cutter_ground.specs.declared.Mover.{Mover}
 use Rattle.cutter_state.specs.State.{holdsAt}
 use Rattle.cutter_state.specs.WellFormed.{rowsFilled, columnsFilled, isUnit, moverOk}
 use Rattle.cutter_state.proofs.Ring.{holds-inside, holds-code, inside-ring}

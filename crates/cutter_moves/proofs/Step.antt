@@ -9,17 +9,17 @@ use lib.Dec.{lit<}
 use lib.ListN.{length}
 use borrow.Author.Tests.{lt-ltb, eqb-true}
 use Rattle.laws.proofs.Lists.{all-weaken}
-use Rattle.joined.proofs.Joined.{black-in}
-use Rattle.ground.specs.Cells.{CW, CN, CB-BLACK, cellAt, cellOf}
-use Rattle.ground.specs.declared.Mover.{Mover}
-use Rattle.closing.specs.Counted.{MAX-COMP}
-use Rattle.closing.specs.Closing.{closeCut}
-use Rattle.closing.specs.declared.Cut.{Cut}
-use Rattle.closing.proofs.Sums.{length-after}
-use Rattle.capture.specs.Steps.{inside, Closable, Closes}
-use Rattle.border.specs.Border.{toBorder}
-use Rattle.border.specs.Tables.{Standing}
-use Rattle.border.proofs.Nearest.{nearest, walk-at}
+use Rattle.cutter_joined.proofs.Joined.{black-in}
+use Rattle.cutter_ground.specs.Cells.{CW, CN, CB-BLACK, cellAt, cellOf}
+use Rattle.cutter_ground.specs.declared.Mover.{Mover}
+use Rattle.cutter_closing.specs.Counted.{MAX-COMP}
+use Rattle.cutter_closing.specs.Closing.{closeCut}
+use Rattle.cutter_closing.specs.declared.Cut.{Cut}
+use Rattle.cutter_closing.proofs.Sums.{length-after}
+use Rattle.cutter_capture.specs.Steps.{inside, Closable, Closes}
+use Rattle.cutter_border.specs.Border.{toBorder}
+use Rattle.cutter_border.specs.Tables.{Standing}
+use Rattle.cutter_border.proofs.Nearest.{nearest, walk-at}
 use Rattle.cutter_state.specs.declared.Cutter.{Cutter}
 use Rattle.cutter_state.specs.State.{place, creatures}
 use Rattle.cutter_state.specs.Change.{withGrid, withCreatures, withTrailing}

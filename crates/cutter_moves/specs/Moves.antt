@@ -6,8 +6,8 @@ use Prim.Native.Nat.{ℕ, _-_, _<_, _≤_, _/_, _%_}
 use lib.IntN.{ℤ}
 use lib.ListN.{length, take, drop}
 use Rattle.laws.specs.Lists.{all, any}
-use Rattle.ground.specs.Cells.{CW, CH, CN, MAX-ENEMIES, cellAt, cellOf}
-use Rattle.ground.specs.declared.Mover.{Mover}
+use Rattle.cutter_ground.specs.Cells.{CW, CH, CN, MAX-ENEMIES, cellAt, cellOf}
+use Rattle.cutter_ground.specs.declared.Mover.{Mover}
 use Rattle.cutter_state.specs.State.{Inside}
 use Rattle.cutter_state.specs.WellFormed.{rowsFilled, columnsFilled, isUnit, moverOk}
 use Rattle.cutter_rules.specs.Ahead.{sideOf, verticalOf, diagonalOf}

@@ -5,8 +5,8 @@ use mathlib.Core.Path.{_≡_}
 use Prim.Native.Nat.{ℕ, _<_, _≤_, _/_, _%_}
 use lib.IntN.{ℤ}
 use lib.ListN.{length, getD, set}
-use Rattle.ground.specs.Cells.{CW, CH, CN, MAX-ENEMIES, CB-TRAIL}
-use Rattle.ground.specs.declared.Mover.{Mover}
+use Rattle.cutter_ground.specs.Cells.{CW, CH, CN, MAX-ENEMIES, CB-TRAIL}
+use Rattle.cutter_ground.specs.declared.Mover.{Mover}
 use Rattle.cutter_state.specs.declared.Cutter.{Cutter}
 use Rattle.cutter_state.specs.State.{place}
 use Rattle.cutter_rules.specs.Step.{entered, cutClosed, atBorder, stepped}

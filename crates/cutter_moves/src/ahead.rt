@@ -1,14 +1,14 @@
 // The cells ahead, the way a velocity or a direction points; CN where there is none.
 ghost use mathlib.Core.Path.{_≡_};
 ghost use Prim.Native.Nat.{_<_, _%_};
-ghost use Rattle.ground.specs.Cells.{CW, CN};
+ghost use Rattle.cutter_ground.specs.Cells.{CW, CN};
 ghost use Rattle.cutter_rules.specs.Ahead.{sideOf, verticalOf, diagonalOf};
 ghost use Rattle.cutter_moves.specs.Moves.{Across, Along};
-use ground::CW;
-use ground::down_of;
-use ground::left_of;
-use ground::right_of;
-use ground::up_of;
+use cutter_ground::CW;
+use cutter_ground::down_of;
+use cutter_ground::left_of;
+use cutter_ground::right_of;
+use cutter_ground::up_of;
 
 pub fn side_of(at: usize, v: i8) -> usize
     ensures { λ r. ⌜ r ≡ sideOf v at ⌝ }

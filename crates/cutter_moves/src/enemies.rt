@@ -5,21 +5,21 @@ ghost use Prim.Native.Nat.{_<_, _≤_};
 ghost use lib.Dec.{eqb};
 ghost use lib.ListN.{take, drop};
 ghost use Rattle.laws.specs.Lists as L;
-ghost use Rattle.ground.specs.Cells.{CN, MAX-ENEMIES, CB-BLACK, CB-TRAIL};
+ghost use Rattle.cutter_ground.specs.Cells.{CN, MAX-ENEMIES, CB-BLACK, CB-TRAIL};
 ghost use Rattle.cutter_state.specs.WellFormed.{WellFormed};
 ghost use Rattle.cutter_rules.specs.Tick.{isAt, creatureAt, flipped, gone, bounced, enemiesStepped};
 ghost use Rattle.cutter_moves.specs.Moves.{Roams, Bounces, Ticks, viewOf, moverAt, roamOf, tickOf};
 use crate::ahead::side_in;
 use crate::ahead::vertical_in;
+use cutter_ground::CB_BLACK;
+use cutter_ground::CB_TRAIL;
+use cutter_ground::CN;
+use cutter_ground::CW;
+use cutter_ground::MAX_ENEMIES;
+use cutter_ground::Mover;
+use cutter_ground::cell_of;
 use cutter_state::Cutter;
 use found::Found;
-use ground::CB_BLACK;
-use ground::CB_TRAIL;
-use ground::CN;
-use ground::CW;
-use ground::MAX_ENEMIES;
-use ground::Mover;
-use ground::cell_of;
 
 // How many of the first `count` creatures are at a cell, from number `from` on.
 fn number_from(enemies: [Mover; MAX_ENEMIES], from: usize, count: usize, at: usize) -> usize

@@ -1,9 +1,9 @@
 // One turn of Block Cutter's loop, as definitions (specs/), their laws and what a turn keeps (proofs/); here the words that they share with the
 // code.
 use answer::Answer;
+use cutter_ground::CH;
+use cutter_ground::CW;
 use cutter_state::Cutter;
-use ground::CH;
-use ground::CW;
 use refusal::Refusal;
 
 // Cycles between player steps and creature steps.

@@ -5,7 +5,7 @@ use mathlib.Core.Path.{_≡_, refl}
 use Prim.Native.Nat.{_-_}
 use lib.IntN.{pos}
 use lib.ListN.{replicate}
-use Rattle.ground.specs.Cells.{CN, CB-BLACK, CB-FILLED}
+use Rattle.cutter_ground.specs.Cells.{CN, CB-BLACK, CB-FILLED}
 use Rattle.cutter_state.specs.declared.Cutter.{Cutter}
 use Rattle.cutter_picture.specs.Picture.{cutLit}
 

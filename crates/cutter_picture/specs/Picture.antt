@@ -7,8 +7,8 @@ use lib.Dec.{eqb}
 use lib.ListN.{length}
 use Rattle.laws.specs.Lists.{any, allBelow}
 use Rattle.frame.specs.Frame.{FRAME-LEN}
-use Rattle.ground.specs.Cells.{CB-FILLED, CB-TRAIL, cellAt}
-use Rattle.ground.specs.declared.Mover.{Mover}
+use Rattle.cutter_ground.specs.Cells.{CB-FILLED, CB-TRAIL, cellAt}
+use Rattle.cutter_ground.specs.declared.Mover.{Mover}
 use Rattle.cutter_state.specs.declared.Cutter.{Cutter}
 use Rattle.cutter_state.specs.State.{place, creatures}
 use Rattle.cutter_state.specs.WellFormed.{WellFormed}

@@ -11,7 +11,7 @@ use Rattle.laws.proofs.Table.{table-more}
 use Rattle.bits.specs.Bits.{number}
 use Rattle.bits.proofs.Number.{number-above, number-ext}
 use Rattle.frame.specs.Frame.{pageByte}
-use Rattle.ground.specs.Cells.{cellAt}
+use Rattle.cutter_ground.specs.Cells.{cellAt}
 use Rattle.cutter_state.specs.State.{place}
 use Rattle.cutter_picture.specs.Picture.{isInk, groundLit}
 use Rattle.cutter_render.specs.Draw.{cellsLit, grounded}

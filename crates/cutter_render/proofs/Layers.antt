@@ -15,7 +15,7 @@ use Rattle.frame.specs.Frame.{pack, pixel}
 use Rattle.frame.specs.Draw.{Framed, inked, papered, inverted}
 use Rattle.frame.proofs.Pack.{pack-ext}
 use Rattle.frame.proofs.Draw.{drawn-pack, xor-false}
-use Rattle.ground.specs.declared.Mover.{Mover}
+use Rattle.cutter_ground.specs.declared.Mover.{Mover}
 use Rattle.cutter_state.specs.declared.Cutter.{Cutter}
 use Rattle.cutter_state.specs.State.{creatures}
 use Rattle.cutter_picture.specs.Picture.{dotLit, cellLit, groundLit, moverLit, noLife, cutLit}

@@ -16,8 +16,8 @@ use Rattle.bits.specs.Bits.{number}
 use Rattle.frame.specs.Frame.{pageByte}
 use Rattle.cutter_picture.specs.Picture.{dotLit}
 use Rattle.cutter_render.specs.Draw.{columnLit, onPanel}
-use Rattle.ground.specs.Cells.{CW, CH, CB-BLACK, cellAt}
-use Rattle.ground.specs.declared.Mover.{Mover}
+use Rattle.cutter_ground.specs.Cells.{CW, CH, CB-BLACK, cellAt}
+use Rattle.cutter_ground.specs.declared.Mover.{Mover}
 use Rattle.cutter_state.specs.State.{place, holdsAt}
 use Rattle.cutter_state.specs.WellFormed.{moverOk, isUnit}
 

@@ -8,8 +8,8 @@ use lib.ListN.{length, take, drop}
 use Rattle.laws.specs.Lists.{all, table}
 use Rattle.frame.specs.Frame.{PAGES, PAGE-LEN, FRAME-LEN, pageByte}
 use Rattle.frame.specs.Draw.{Framed}
-use Rattle.ground.specs.Cells.{CW, CH, CN, MAX-ENEMIES, cellAt}
-use Rattle.ground.specs.declared.Mover.{Mover}
+use Rattle.cutter_ground.specs.Cells.{CW, CH, CN, MAX-ENEMIES, cellAt}
+use Rattle.cutter_ground.specs.declared.Mover.{Mover}
 use Rattle.cutter_state.specs.State.{place, onGrid}
 use Rattle.cutter_state.specs.WellFormed.{MAX-LIVES}
 use Rattle.cutter_picture.specs.Picture.{isInk, groundLit}

@@ -9,15 +9,15 @@ ghost use Rattle.frame.specs.Draw.{inked, inverted, papered};
 ghost use Rattle.cutter_picture.specs.Picture.{Drawable, cellLit, cutLit, dotLit, groundLit, isInk, moverLit, noLife};
 ghost use Rattle.cutter_render.specs.Draw.{Alive, Cell, Column, Four, Lent, NextPage, Paged, Peopled, Spot, cellsLit, columnLit};
 use bits::TILE;
+use cutter_ground::CB_FILLED;
+use cutter_ground::CB_TRAIL;
+use cutter_ground::CN;
+use cutter_ground::CW;
+use cutter_ground::MAX_ENEMIES;
+use cutter_ground::Mover;
 use cutter_state::Cutter;
 use frame::PAGE_LEN;
 use frame::PAGES;
-use ground::CB_FILLED;
-use ground::CB_TRAIL;
-use ground::CN;
-use ground::CW;
-use ground::MAX_ENEMIES;
-use ground::Mover;
 
 // Rows of cells in a page: a cell is 2 by 2 pixels.
 const ROWS: usize = TILE / 2;

@@ -7,7 +7,7 @@ use lib.Dec.{leb}
 use Rattle.laws.proofs.Choice.{cond-both}
 use Rattle.found.specs.declared.Found.{Found}
 use Rattle.found.specs.declared.Found.the-variants.{At, Nobody}
-use Rattle.ground.specs.Cells.{CN, CB-BLACK, CB-FILLED, CB-TRAIL, onBorder}
+use Rattle.cutter_ground.specs.Cells.{CN, CB-BLACK, CB-FILLED, CB-TRAIL, onBorder}
 use Rattle.cutter_state.specs.declared.Cutter.{Cutter}
 use Rattle.cutter_state.specs.State.{creatures}
 use Rattle.cutter_state.specs.Change.{withTrailing, killed}

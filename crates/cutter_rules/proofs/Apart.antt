@@ -7,8 +7,8 @@ use native.Mathlib.Omega.{arith}
 use lib.IntN.{ℤ}
 use borrow.Author.Tests.{eqb-true, eq-eqb}
 use Rattle.laws.proofs.Choice.{cond-both, and-left}
-use Rattle.ground.specs.Cells.{CW, CB-BLACK, CB-TRAIL, cellAt, blackAt, cellOf}
-use Rattle.ground.specs.declared.Mover.{Mover}
+use Rattle.cutter_ground.specs.Cells.{CW, CB-BLACK, CB-TRAIL, cellAt, blackAt, cellOf}
+use Rattle.cutter_ground.specs.declared.Mover.{Mover}
 use Rattle.cutter_state.specs.declared.Cutter.{Cutter}
 use Rattle.cutter_state.specs.State.{place, holdsAt}
 use Rattle.cutter_state.specs.WellFormed.{isUnit, moverOk, WellFormed}

@@ -5,7 +5,7 @@ use mathlib.Core.Path.{_≡_}
 use lib.IntN.{pos, negsuc}
 use lib.ListN.{set}
 use Rattle.laws.specs.Lists.{table}
-use Rattle.ground.specs.Cells.{CB-FILLED}
+use Rattle.cutter_ground.specs.Cells.{CB-FILLED}
 use Rattle.cutter_state.specs.declared.Cutter.{Cutter}
 use Rattle.cutter_state.specs.State.{place, creatures}
 use Rattle.cutter_state.specs.Change.{withGrid}

@@ -10,7 +10,7 @@ use borrow.Author.Tests.{ltb-true, eqb-true}
 use Rattle.laws.specs.Lists.{allBelow}
 use Rattle.laws.proofs.Choice.{and-left, and-right}
 use Rattle.laws.proofs.Below.{at-below}
-use Rattle.ground.specs.Cells.{MAX-ENEMIES}
+use Rattle.cutter_ground.specs.Cells.{MAX-ENEMIES}
 use Rattle.cutter_rules.specs.Level.{DRAWS, creaturesOf, drawAt, inRange, drawsOk}
 
 -- at most 16 creatures, whatever the level

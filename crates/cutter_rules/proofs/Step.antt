@@ -6,8 +6,8 @@ use native.Mathlib.Omega.{arith}
 use borrow.Author.Tests.{le-leb, lt-leb}
 use Rattle.found.specs.declared.Found.{Found}
 use Rattle.found.specs.declared.Found.the-variants.{At, Nobody}
-use Rattle.ground.specs.Cells.{CW, CN, onBorder}
-use Rattle.border.proofs.Nearest.{nearest}
+use Rattle.cutter_ground.specs.Cells.{CW, CN, onBorder}
+use Rattle.cutter_border.proofs.Nearest.{nearest}
 use Rattle.cutter_state.specs.declared.Cutter.{Cutter}
 use Rattle.cutter_state.specs.State.{place, creatures}
 use Rattle.cutter_state.specs.Change.{killed}

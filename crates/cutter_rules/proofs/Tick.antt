@@ -4,8 +4,8 @@ use mathlib.Core.List.{List, _∷_}
 use mathlib.Core.Path.{_≡_, ap}
 use Prim.Native.Nat.{ℕ, _/_, _%_}
 use lib.IntN.{ℤ}
-use Rattle.ground.specs.Cells.{CW, blackAt, cellOf}
-use Rattle.ground.specs.declared.Mover.{Mover}
+use Rattle.cutter_ground.specs.Cells.{CW, blackAt, cellOf}
+use Rattle.cutter_ground.specs.declared.Mover.{Mover}
 use Rattle.cutter_rules.specs.Ahead.{sideOf, verticalOf, diagonalOf}
 use Rattle.cutter_rules.specs.Tick.{lineAt, lineAhead, gone, ticked}
 

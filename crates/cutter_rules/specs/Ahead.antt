@@ -1,7 +1,7 @@
 -- Block Cutter: the cells ahead, the way a velocity or a direction points; CN, which is off the grid, where there is none.
 use Prim.Native.Nat.{ℕ, zero, suc}
 use lib.IntN.{ℤ, pos, negsuc}
-use Rattle.ground.specs.Cells.{leftOf, rightOf, upOf, downOf}
+use Rattle.cutter_ground.specs.Cells.{leftOf, rightOf, upOf, downOf}
 
 -- back where v is negative, on where it is positive
 unfoldable pub along : (ℕ → ℕ) → (ℕ → ℕ) → ℤ → ℕ → ℕ

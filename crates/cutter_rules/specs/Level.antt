@@ -6,9 +6,9 @@ use lib.Dec.{eqb, ltb}
 use lib.IntN.{ℤ, pos, negsuc}
 use lib.ListN.{length, getD, replicate}
 use Rattle.laws.specs.Lists.{allBelow, table}
-use Rattle.ground.specs.Cells.{CW, CH, CB-BLACK, CB-FILLED, MAX-ENEMIES}
-use Rattle.ground.specs.declared.Mover.{Mover}
-use Rattle.closing.specs.Closing.{slots}
+use Rattle.cutter_ground.specs.Cells.{CW, CH, CB-BLACK, CB-FILLED, MAX-ENEMIES}
+use Rattle.cutter_ground.specs.declared.Mover.{Mover}
+use Rattle.cutter_closing.specs.Closing.{slots}
 use Rattle.cutter_state.specs.declared.Cutter.{Cutter}
 use Rattle.cutter_state.specs.Change.{withGrid, withPlayer, withDirection, withTrailing, withCreatures}
 

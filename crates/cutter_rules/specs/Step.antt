@@ -7,14 +7,14 @@ use lib.IntN.{ℤ, pos, negsuc}
 use lib.ListN.{set}
 use Rattle.found.specs.declared.Found.{Found}
 use Rattle.found.specs.declared.Found.the-variants.{At, Nobody}
-use Rattle.ground.specs.Cells.{CW, CN, CB-BLACK, CB-FILLED, CB-TRAIL, cellAt, onBorder}
+use Rattle.cutter_ground.specs.Cells.{CW, CN, CB-BLACK, CB-FILLED, CB-TRAIL, cellAt, onBorder}
 use Rattle.cutter_state.specs.declared.Cutter.{Cutter}
 use Rattle.cutter_state.specs.State.{place, creatures}
 use Rattle.cutter_state.specs.WellFormed.{isZero}
 use Rattle.cutter_state.specs.Change.{withGrid, withPlayer, withDirection, withTrailing, withCreatures, killed}
-use Rattle.closing.specs.Counted.{MAX-COMP}
-use Rattle.closing.specs.Closing.{closeCut}
-use Rattle.border.proofs.Nearest.{nearest}
+use Rattle.cutter_closing.specs.Counted.{MAX-COMP}
+use Rattle.cutter_closing.specs.Closing.{closeCut}
+use Rattle.cutter_border.proofs.Nearest.{nearest}
 use Rattle.cutter_rules.specs.Ahead.{diagonalOf}
 use Rattle.cutter_rules.specs.Level.{atStart}
 use Rattle.cutter_rules.specs.Tick.{creatureAt, lineAt}

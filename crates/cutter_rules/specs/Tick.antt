@@ -7,8 +7,8 @@ use lib.IntN.{ℤ, pos, negsuc}
 use Rattle.laws.specs.Lists.{any}
 use Rattle.found.specs.First.{first}
 use Rattle.found.specs.declared.Found.{Found}
-use Rattle.ground.specs.Cells.{CW, CB-TRAIL, cellAt, blackAt, cellOf}
-use Rattle.ground.specs.declared.Mover.{Mover}
+use Rattle.cutter_ground.specs.Cells.{CW, CB-TRAIL, cellAt, blackAt, cellOf}
+use Rattle.cutter_ground.specs.declared.Mover.{Mover}
 use Rattle.cutter_state.specs.declared.Cutter.{Cutter}
 use Rattle.cutter_state.specs.State.{creatures, spare}
 use Rattle.cutter_state.specs.Change.{withCreatures, withDead}

@@ -6,8 +6,8 @@ use Prim.Native.Nat.{ℕ, _+_, _-_}
 use lib.IntN.{ℤ, pos, negsuc}
 use lib.ListN.{replicate}
 use Rattle.refusal.specs.Refusal.{NONE, CELLS, PLAYER, CREATURES, NUMBERS}
-use Rattle.ground.specs.Cells.{CW, CN, MAX-ENEMIES, CB-BLACK, CB-FILLED, CB-TRAIL}
-use Rattle.ground.specs.declared.Mover.{Mover}
+use Rattle.cutter_ground.specs.Cells.{CW, CN, MAX-ENEMIES, CB-BLACK, CB-FILLED, CB-TRAIL}
+use Rattle.cutter_ground.specs.declared.Mover.{Mover}
 use Rattle.cutter_state.specs.declared.Cutter.{Cutter}
 use Rattle.cutter_state.specs.State.{holdsAt}
 use Rattle.cutter_state.specs.WellFormed.{rowsFilled, columnsFilled, cellsOk, directionOk, playerOk, moverOk, blank, creaturesOk, numbersOk, refusalOf}

@@ -8,7 +8,7 @@ use Rattle.laws.specs.Lists.{all, any}
 use Rattle.laws.proofs.Choice.{and-left, and-right, and-three}
 use Rattle.refusal.specs.Refusal.{NONE}
 use Rattle.refusal.proofs.Checks.{none-passes, passes-none}
-use Rattle.ground.specs.Cells.{CN, MAX-ENEMIES}
+use Rattle.cutter_ground.specs.Cells.{CN, MAX-ENEMIES}
 use Rattle.cutter_state.specs.declared.Cutter.{Cutter}
 use Rattle.cutter_state.specs.State.{holdsAt, creatures, spare}
 use Rattle.cutter_state.specs.WellFormed.{MAX-LIVES, MAX-LEVEL, isCode, isTrail, rowsFilled, columnsFilled, cellsOk, footing, directionOk, playerOk, moverOk, blank, creaturesOk, numbersOk, wellFormed, refusalOf, WellFormed}

@@ -11,7 +11,7 @@ use borrow.Author.Tests.{eqb-true, eq-eqb, ltb-true, lt-ltb}
 use Rattle.laws.proofs.Below.{at-below, all-below}
 use Rattle.laws.proofs.Choice.{and-left, and-right, and-both, below?}
 use Rattle.laws.proofs.Lists.{getD-default}
-use Rattle.ground.specs.Cells.{CW, CH, CN, CB-FILLED, cellAt}
+use Rattle.cutter_ground.specs.Cells.{CW, CH, CN, CB-FILLED, cellAt}
 use Rattle.cutter_state.specs.State.{place, onGrid, holdsAt, Inside}
 use Rattle.cutter_state.specs.WellFormed.{filledAt, rowsFilled, columnsFilled}
 

@@ -8,8 +8,8 @@ use lib.IntN.{ℤ, natAbs}
 use lib.ListN.{length}
 use Rattle.laws.specs.Lists.{all, any, allBelow}
 use Rattle.refusal.specs.Refusal.{CELLS, PLAYER, CREATURES, NUMBERS, unless, _then_}
-use Rattle.ground.specs.Cells.{CW, CH, CN, MAX-ENEMIES, CB-BLACK, CB-FILLED, CB-TRAIL, cellAt}
-use Rattle.ground.specs.declared.Mover.{Mover}
+use Rattle.cutter_ground.specs.Cells.{CW, CH, CN, MAX-ENEMIES, CB-BLACK, CB-FILLED, CB-TRAIL, cellAt}
+use Rattle.cutter_ground.specs.declared.Mover.{Mover}
 use Rattle.cutter_state.specs.declared.Cutter.{Cutter}
 use Rattle.cutter_state.specs.State.{place, holdsAt, creatures, spare}
 

@@ -1,7 +1,7 @@
 // Block Cutter: the state.
-use ground::CN;
-use ground::MAX_ENEMIES;
-use ground::Mover;
+use cutter_ground::CN;
+use cutter_ground::MAX_ENEMIES;
+use cutter_ground::Mover;
 
 pub const MAX_LIVES: u32 = 3;
 

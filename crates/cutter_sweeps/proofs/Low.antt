@@ -11,11 +11,11 @@ use lib.Seq.{getD-set-same, getD-set-other, set-getD}
 use Rattle.laws.specs.Lists.{across}
 use Rattle.laws.proofs.Choice.{below?, same?}
 use Rattle.laws.proofs.Folds.{across-keeps, across-still}
-use Rattle.ground.specs.Cells.{CN, cellAt, CB-BLACK, leftOf, rightOf, upOf, downOf}
-use Rattle.joined.specs.Joined.{Black, Joined, Right}
-use Rattle.joined.proofs.Joined.{black-in, black?, right-unique}
-use Rattle.joined.proofs.Labels as labelled
-use Rattle.joined.proofs.Labels.{Low, total, least-black, settled-at, labels}
+use Rattle.cutter_ground.specs.Cells.{CN, cellAt, CB-BLACK, leftOf, rightOf, upOf, downOf}
+use Rattle.cutter_joined.specs.Joined.{Black, Joined, Right}
+use Rattle.cutter_joined.proofs.Joined.{black-in, black?, right-unique}
+use Rattle.cutter_joined.proofs.Labels as labelled
+use Rattle.cutter_joined.proofs.Labels.{Low, total, least-black, settled-at, labels}
 use Rattle.cutter_sweeps.specs.Sweeps.{owns, lower, low, lowered, sweep, Sweeps, begun, again, Settled}
 
 -- ---- one cell

@@ -12,9 +12,9 @@ use lib.Seq.{getD-set-other}
 use Rattle.laws.specs.Lists.{across}
 use Rattle.laws.proofs.Folds.{across-turn, across-end}
 use Rattle.laws.proofs.Table.{length-table}
-use Rattle.ground.specs.Cells.{CN, cellAt, leftOf, rightOf, upOf, downOf}
-use Rattle.joined.specs.Joined.{Black}
-use Rattle.joined.proofs.Labels.{total}
+use Rattle.cutter_ground.specs.Cells.{CN, cellAt, leftOf, rightOf, upOf, downOf}
+use Rattle.cutter_joined.specs.Joined.{Black}
+use Rattle.cutter_joined.proofs.Labels.{total}
 use Rattle.cutter_sweeps.specs.Sweeps.{ownOf, owns, lower, low, lowered, sweep, Sweeps, begun, again}
 use Rattle.cutter_sweeps.specs.Trainer.{changes}
 use Rattle.cutter_sweeps.specs.Table.{Numbers, Swept}

@@ -12,7 +12,7 @@ use lib.Seq.{getD-set-same, getD-set-other}
 use Rattle.laws.specs.Lists.{any, bit}
 use Rattle.laws.proofs.Choice.{same?}
 use Rattle.laws.proofs.Lists.{drop-one, drop-end, getD-default, getD-replicate-same}
-use Rattle.ground.specs.Cells.{CN, CB-BLACK, CB-FILLED}
+use Rattle.cutter_ground.specs.Cells.{CN, CB-BLACK, CB-FILLED}
 use Rattle.cutter_sweeps.specs.Trainer.{blackNumbers, kinds}
 use Rattle.cutter_sweeps.specs.Table.{Reached}
 use Rattle.cutter_sweeps.proofs.Low.{sweeps-low}

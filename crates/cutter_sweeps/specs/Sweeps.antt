@@ -7,7 +7,7 @@ use Prim.Native.Nat.{ℕ, min}
 use lib.Dec.{eqb}
 use lib.ListN.{getD, set}
 use Rattle.laws.specs.Lists.{table, across}
-use Rattle.ground.specs.Cells.{CN, CB-BLACK, cellAt, blackAt, leftOf, rightOf, upOf, downOf}
+use Rattle.cutter_ground.specs.Cells.{CN, CB-BLACK, cellAt, blackAt, leftOf, rightOf, upOf, downOf}
 
 -- each black cell's own number; CN for any other cell
 abbrev pub ownOf : ℕ → ℕ → ℕ

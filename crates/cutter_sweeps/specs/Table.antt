@@ -3,8 +3,8 @@ use mathlib.Core.Path.{_≡_}
 use mathlib.Core.List.{List}
 use Prim.Native.Nat.{ℕ, _+_, _≤_, _<_}
 use lib.ListN.{length}
-use Rattle.ground.specs.Cells.{CN}
-use Rattle.joined.proofs.Labels.{total}
+use Rattle.cutter_ground.specs.Cells.{CN}
+use Rattle.cutter_joined.proofs.Labels.{total}
 use Rattle.cutter_sweeps.specs.Sweeps.{sweep, Sweeps}
 use Rattle.cutter_sweeps.specs.Trainer.{changes}
 

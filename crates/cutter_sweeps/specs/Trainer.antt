@@ -4,7 +4,7 @@ use mathlib.Core.List.{List, [], _∷_, zipWith}
 use Prim.Native.Nat.{ℕ, zero, suc}
 use lib.Dec.{eqb}
 use Rattle.laws.specs.Lists.{any, count}
-use Rattle.ground.specs.Cells.{CB-BLACK}
+use Rattle.cutter_ground.specs.Cells.{CB-BLACK}
 
 -- how many cells have another number
 unfoldable pub changes : List ℕ → List ℕ → ℕ

@@ -1,6 +1,6 @@
 // The regions of black cells by plain sweeps. The table of numbers is the caller's and is lent.
-use ground::CB_BLACK;
-use ground::CN;
+use cutter_ground::CB_BLACK;
+use cutter_ground::CN;
 ghost use mathlib.Core.Path.{_≡_};
 ghost use Rattle.cutter_sweeps.specs.Sweeps.{ownOf, owns, lower, low, Settled};
 ghost use Rattle.cutter_sweeps.specs.Trainer.{numbersLeft};
@@ -46,10 +46,10 @@ fn lowest(grid: &[u8; CN], nums: &[u16; CN], at: usize) -> u16
     ensures { λ r. ⌜ r ≡ low (now (grid .entry)) (now (nums .entry)) at ⌝ }
 {
     let v = nums[at];
-    let left = ground::left_of(at);
-    let right = ground::right_of(at);
-    let up = ground::up_of(at);
-    let down = ground::down_of(at);
+    let left = cutter_ground::left_of(at);
+    let right = cutter_ground::right_of(at);
+    let up = cutter_ground::up_of(at);
+    let down = cutter_ground::down_of(at);
     let v1 = lower_by(grid, nums, down, v);
     let v2 = lower_by(grid, nums, up, v1);
     let v3 = lower_by(grid, nums, right, v2);

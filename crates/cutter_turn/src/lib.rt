@@ -1,6 +1,7 @@
 // One turn of Block Cutter's loop: what is left of it when keys, clock, draws and record are numbers.
 use answer::Answer;
 use cutter_check::check;
+use cutter_ground::black_count;
 use cutter_level::creatures_of;
 use cutter_level::draws_ok;
 use cutter_level::new_level;
@@ -24,7 +25,6 @@ use cutter_rules::RIGHT;
 use cutter_rules::UP;
 use cutter_state::Cutter;
 use cutter_state::MAX_LEVEL;
-use ground::black_count;
 use pace::both_ticks;
 use refusal::Refusal;
 ghost use mathlib.Core.Bool.{cond};

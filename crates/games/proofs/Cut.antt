@@ -7,14 +7,14 @@ use lib.Dec.{ltb}
 use lib.IntN.{pos}
 use lib.ListN.{length, replicate}
 use Rattle.laws.specs.Lists.{tally, table}
-use Rattle.ground.specs.Cells.{CW, CH, CN, CB-BLACK, CB-FILLED, CB-TRAIL}
-use Rattle.ground.specs.declared.Mover.{Mover}
-use Rattle.joined.specs.Joined.{Right}
-use Rattle.joined.proofs.Certificate.{every4, cellOk, rightTest, right-by-test}
-use Rattle.closing.specs.Counted.{MAX-COMP, rootsFrom, counted, cellsIn}
-use Rattle.closing.specs.declared.Cut.{Cut}
-use Rattle.closing.specs.Closing.{claimLine, slots, best, keptOf, claim, closeCut}
-use Rattle.closing.proofs.Labels.{closing-by}
+use Rattle.cutter_ground.specs.Cells.{CW, CH, CN, CB-BLACK, CB-FILLED, CB-TRAIL}
+use Rattle.cutter_ground.specs.declared.Mover.{Mover}
+use Rattle.cutter_joined.specs.Joined.{Right}
+use Rattle.cutter_joined.proofs.Certificate.{every4, cellOk, rightTest, right-by-test}
+use Rattle.cutter_closing.specs.Counted.{MAX-COMP, rootsFrom, counted, cellsIn}
+use Rattle.cutter_closing.specs.declared.Cut.{Cut}
+use Rattle.cutter_closing.specs.Closing.{claimLine, slots, best, keptOf, claim, closeCut}
+use Rattle.cutter_closing.proofs.Labels.{closing-by}
 use Rattle.cutter_state.specs.declared.Cutter.{Cutter}
 use Rattle.cutter_rules.specs.Ahead.{along}
 use Rattle.cutter_rules.specs.Level.{edge, rows, freshGrid, velocity, drawn, atStart, freshLevel}

@@ -2,8 +2,8 @@
 use mathlib.Core.Path.{_≡_, refl, sym, ap, _∙_}
 use Rattle.refusal.proofs.Calls.{refused-by, answered-by, refused-or-answered}
 use Rattle.cutter_sweeps.proofs.Low.{sweeps-settle}
-use Rattle.closing.specs.Closing.{claimLine}
-use Rattle.closing.proofs.Labels.{length-claimLine}
+use Rattle.cutter_closing.specs.Closing.{claimLine}
+use Rattle.cutter_closing.proofs.Labels.{length-claimLine}
 use Rattle.cutter_state.specs.declared.Cutter.{Cutter}
 use Rattle.cutter_state.specs.State.{creatures}
 use Rattle.cutter_state.specs.WellFormed.{refusalOf}

@@ -6,7 +6,7 @@ use Rattle.found.proofs.First.{number-count, nobody-zero}
 use Rattle.found.specs.declared.Found.the-variants.{At, Nobody}
 use Rattle.mine_state.specs.State as Mine
 use Rattle.mine_state.proofs.Alone.{alone}
-use Rattle.ground.specs.Cells as Cutter
+use Rattle.cutter_ground.specs.Cells as Cutter
 use Rattle.cutter.specs.Question.{whoAt}
 use Rattle.cutter_state.specs.declared.Cutter.{Cutter}
 use Rattle.cutter_state.specs.State.{creatures}

@@ -12,7 +12,7 @@ use Rattle.mine_rules.specs.Load.{loaded}
 use Rattle.mine_rules.specs.Move.{moved}
 use Rattle.mine_rules.specs.Tick.{ticked}
 use Rattle.mine_rules.specs.Cases.{P1, P4, P5, P6, P7, P8}
-use Rattle.ground.specs.Cells.{CB-FILLED}
+use Rattle.cutter_ground.specs.Cells.{CB-FILLED}
 use Rattle.cutter_state.specs.declared.Cutter.{Cutter}
 use Rattle.cutter_state.specs.State.{place, creatures}
 use Rattle.cutter_state.specs.Change.{withGrid}

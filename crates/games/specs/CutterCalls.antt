@@ -6,7 +6,7 @@ use lib.Dec.{eqb}
 use Rattle.refusal.specs.Refusal.{NONE, refusedOr}
 use Rattle.pace.specs.declared.Pace.{Pace}
 use Rattle.pace.specs.Pace.{started}
-use Rattle.ground.specs.declared.Mover.{Mover}
+use Rattle.cutter_ground.specs.declared.Mover.{Mover}
 use Rattle.cutter_state.specs.declared.Cutter.{Cutter}
 use Rattle.cutter_keeps.specs.Steps.{stepClaims, stepLoses}
 use Rattle.cutter_pass.specs.declared.CutterPassed.{CutterPassed}

@@ -4,7 +4,7 @@ use mathlib.Core.List.{List}
 use mathlib.Core.Path.{_≡_}
 use Prim.Native.Nat.{ℕ}
 use Rattle.cutter_sweeps.specs.Sweeps.{Settled}
-use Rattle.closing.specs.Closing.{claimLine, closed, closeCut}
+use Rattle.cutter_closing.specs.Closing.{claimLine, closed, closeCut}
 use Rattle.cutter_state.specs.declared.Cutter.{Cutter}
 use Rattle.cutter_state.specs.State.{creatures}
 use Rattle.cutter_state.specs.WellFormed.{WellFormed}

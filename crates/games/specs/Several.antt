@@ -10,8 +10,8 @@ use Rattle.mine_state.specs.State as Mine
 use Rattle.mine_state.specs.WellFormed.{Alone}
 use Rattle.mine_state.specs.declared.Enemy.{Enemy}
 use Rattle.mine.specs.Question as MineQuestion
-use Rattle.ground.specs.Cells as Cutter
-use Rattle.ground.specs.declared.Mover.{Mover}
+use Rattle.cutter_ground.specs.Cells as Cutter
+use Rattle.cutter_ground.specs.declared.Mover.{Mover}
 use Rattle.cutter.specs.Question as CutterQuestion
 use Rattle.cutter_state.specs.declared.Cutter.{Cutter}
 use Rattle.cutter_state.specs.State.{creatures}

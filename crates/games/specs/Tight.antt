@@ -14,7 +14,7 @@ use Rattle.mine.specs.Calls.{moveCall, gravityCall, tickCall}
 use Rattle.mine.specs.Turn.{passOf}
 use Rattle.mine.specs.Picture.{pictureOf}
 use Rattle.mine.specs.Question.{whoAt}
-use Rattle.ground.specs.declared.Mover.{Mover}
+use Rattle.cutter_ground.specs.declared.Mover.{Mover}
 use Rattle.cutter_state.specs.declared.Cutter.{Cutter}
 use Rattle.cutter_pass.specs.Pass as CP
 use Rattle.cutter.specs.Calls.{roundCall, levelCall, directionCall, stepCall, sweepsCall, enemiesCall, respawnCall, reportCall}

@@ -17,11 +17,11 @@ fn put_state(stands: u8, out: &mut [u8], at: usize) -> usize
     ensures { λ r. ⌜ Puts (stateBytes stands) at (now (out .entry)) r (now (out .exit)) ⌝ }
 {
     match stands {
-        turns::GOING_ON => put(b"   5 8 7 9 or the arrows move, q quits", out, at),
-        turns::WON => put(b"   won: n plays another round, q quits", out, at),
-        turns::DEAD => put(b"   dead: n plays another round, q quits", out, at),
-        turns::OVER => put(b"   over: n plays another round, q quits", out, at),
-        turns::QUIT => put(b"   quit", out, at),
+        console_turns::GOING_ON => put(b"   5 8 7 9 or the arrows move, q quits", out, at),
+        console_turns::WON => put(b"   won: n plays another round, q quits", out, at),
+        console_turns::DEAD => put(b"   dead: n plays another round, q quits", out, at),
+        console_turns::OVER => put(b"   over: n plays another round, q quits", out, at),
+        console_turns::QUIT => put(b"   quit", out, at),
         _ => put(b"   refused: n plays another round, q quits", out, at),
     }
 }

@@ -2,10 +2,10 @@
 use crate::flags::byte_of;
 use crate::flags::flag_of;
 use crate::flags::is_flag;
+use cutter_ground::CN;
+use cutter_ground::MAX_ENEMIES;
+use cutter_ground::Mover;
 use cutter_state::Cutter;
-use ground::CN;
-use ground::MAX_ENEMIES;
-use ground::Mover;
 use refusal::Refusal;
 ghost use mathlib.Core.Path.{_≡_};
 ghost use Rattle.host_state.specs.Cutter.{flagsOf, gameOf, hostOf};

@@ -11,7 +11,7 @@ use Rattle.text.specs.Text.{NEWLINE, lineOf}
 use Rattle.text.specs.Puts.{Puts}
 use Rattle.text.specs.declared.Says.{Says}
 use Rattle.text.specs.declared.Says.the-variants.{Nothing, Numbers, Refused}
-use Rattle.ground.specs.Cells.{CB-FILLED, CB-TRAIL, blackCount}
+use Rattle.cutter_ground.specs.Cells.{CB-FILLED, CB-TRAIL, blackCount}
 use Rattle.cutter_state.specs.declared.Cutter.{Cutter}
 use Rattle.cutter_rules.specs.Step.{UP, RIGHT, DOWN, LEFT}
 use Rattle.cutter.specs.declared.calls.CutterAnswer.{CutterAnswer}

@@ -1,11 +1,11 @@
 // A game by the system's clock, with keys from the terminal.
+use console_screens::within;
+use console_turns::CutterPlay;
+use console_turns::DRAWS;
+use console_turns::MinePlay;
+use console_turns::QUIT;
 use libc::STDIN_FILENO;
 use libc::STDOUT_FILENO;
-use screens::within;
-use turns::CutterPlay;
-use turns::DRAWS;
-use turns::MinePlay;
-use turns::QUIT;
 
 // Turns at most: more than five hours.
 const TURNS: u32 = 4_000_000;
@@ -67,9 +67,9 @@ fn mine_step(m: Mining, terminal: bool) -> Mining {
     }
     let n = within(input.count, &bytes);
     let pressed = &mut bytes[..n];
-    let waits = keys::hear(m.waits, pressed);
+    let waits = console_keys::hear(m.waits, pressed);
     let before = m.play;
-    let play = turns::mine_turn(before, pressed, clock::reading());
+    let play = console_turns::mine_turn(before, pressed, console_clock::reading());
     Mining {
         play,
         waits,
@@ -83,24 +83,24 @@ fn tell_spent() {
 
 pub fn play_mine() {
     let terminal = on_terminal();
-    let start = turns::mine_start(clock::reading());
+    let start = console_turns::mine_start(console_clock::reading());
     let mut m = Mining {
         play: start,
-        waits: keys::PLAIN,
+        waits: console_keys::PLAIN,
         ended: false,
     };
-    let mut shown = screens::mine_screen(start);
-    screens::begin(shown);
+    let mut shown = console_screens::mine_screen(start);
+    console_screens::begin(shown);
     let mut turn: u32 = 0;
     while turn < TURNS {
         turn += 1;
         m = mine_step(m, terminal);
         let play = m.play;
-        shown = screens::refresh(screens::mine_screen(play), shown);
+        shown = console_screens::refresh(console_screens::mine_screen(play), shown);
         if m.ended {
             return;
         }
-        clock::nap(NAP);
+        console_clock::nap(NAP);
     }
     tell_spent();
 }
@@ -109,17 +109,17 @@ pub fn play_mine() {
 fn drawn(fixed: bool, word: [u8; DRAWS]) -> [u8; DRAWS] {
     let mut bytes = word;
     if fixed {
-        turns::to_draws(&mut bytes);
+        console_turns::to_draws(&mut bytes);
         return bytes;
     }
     libc::getentropy(&mut bytes);
-    turns::to_draws(&mut bytes);
+    console_turns::to_draws(&mut bytes);
     bytes
 }
 
 fn cutter_begin(draws: [u8; DRAWS]) -> CutterPlay {
-    let n = within(turns::ROUND, &draws);
-    turns::cutter_start(&draws[..n], clock::reading())
+    let n = within(console_turns::ROUND, &draws);
+    console_turns::cutter_start(&draws[..n], console_clock::reading())
 }
 
 fn cutter_step(c: Cutting, terminal: bool, draws: [u8; DRAWS]) -> Cutting {
@@ -132,10 +132,10 @@ fn cutter_step(c: Cutting, terminal: bool, draws: [u8; DRAWS]) -> Cutting {
     }
     let n = within(input.count, &bytes);
     let pressed = &mut bytes[..n];
-    let waits = keys::hear(c.waits, pressed);
+    let waits = console_keys::hear(c.waits, pressed);
     let before = c.play;
-    let k = within(turns::cutter_draws(before), &draws);
-    let play = turns::cutter_turn(before, pressed, &draws[..k], clock::reading());
+    let k = within(console_turns::cutter_draws(before), &draws);
+    let play = console_turns::cutter_turn(before, pressed, &draws[..k], console_clock::reading());
     Cutting {
         play,
         waits,
@@ -145,7 +145,7 @@ fn cutter_step(c: Cutting, terminal: bool, draws: [u8; DRAWS]) -> Cutting {
 
 // The draws of the next turn, made anew where it takes any.
 fn next_draws(p: CutterPlay, fixed: bool, word: [u8; DRAWS]) -> [u8; DRAWS] {
-    if turns::cutter_draws(p) == 0 {
+    if console_turns::cutter_draws(p) == 0 {
         return word;
     }
     drawn(fixed, word)
@@ -156,22 +156,22 @@ pub fn play_cutter(fixed: bool, word: [u8; DRAWS]) {
     let start = cutter_begin(drawn(fixed, word));
     let mut c = Cutting {
         play: start,
-        waits: keys::PLAIN,
+        waits: console_keys::PLAIN,
         ended: false,
     };
-    let mut shown = screens::cutter_screen(start);
-    screens::begin(shown);
+    let mut shown = console_screens::cutter_screen(start);
+    console_screens::begin(shown);
     let mut turn: u32 = 0;
     while turn < TURNS {
         turn += 1;
         let before = c.play;
         c = cutter_step(c, terminal, next_draws(before, fixed, word));
         let play = c.play;
-        shown = screens::refresh(screens::cutter_screen(play), shown);
+        shown = console_screens::refresh(console_screens::cutter_screen(play), shown);
         if c.ended {
             return;
         }
-        clock::nap(NAP);
+        console_clock::nap(NAP);
     }
     tell_spent();
 }

@@ -5,14 +5,14 @@ use replaying::judge;
 use std::num::wrapping_add_u64;
 use telling::say_difference;
 use telling::say_verdict;
-use verdict::Head;
-use verdict::Part;
-use words::put_cells;
-use words::word;
+use trace_verdict::Head;
+use trace_verdict::Part;
+use trace_words::put_cells;
+use trace_words::word;
 ghost use Prim.Native.Nat.{_<_};
 ghost use mathlib.Core.Path.{_≡_};
 ghost use lib.ListN.{length};
-ghost use Rattle.words.specs.Numbers.{InWord};
+ghost use Rattle.trace_words.specs.Numbers.{InWord};
 ghost use Rattle.reading.specs.Buffers.{HEADER, BODY, MOST, Lengths, Buffers};
 
 // A header's bytes.

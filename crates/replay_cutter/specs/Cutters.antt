@@ -14,9 +14,9 @@ use Rattle.cutter.specs.Calls.{levelCall, directionCall, stepCall, sweepsCall, 
 use Rattle.cutter.specs.Picture.{pictureOf}
 use Rattle.cutter.specs.declared.calls.CutterAnswer.{CutterAnswer}
 use Rattle.cutter.specs.declared.calls.Ground.{Ground}
-use Rattle.words.specs.Numbers.{MARK, byteAt, wordAt, pairIn}
-use Rattle.verdict.specs.declared.Head.{Head}
-use Rattle.verdict.specs.declared.Part.{Part}
+use Rattle.trace_words.specs.Numbers.{MARK, byteAt, wordAt, pairIn}
+use Rattle.trace_verdict.specs.declared.Head.{Head}
+use Rattle.trace_verdict.specs.declared.Part.{Part}
 use Rattle.replay_shared.specs.Either.{onEither}
 use Rattle.replay_shared.specs.Shared.{exactly, atLeast, stays, cutterTold, drawn, staleOf}
 

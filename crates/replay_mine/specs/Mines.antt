@@ -13,9 +13,9 @@ use Rattle.mine_pass.specs.declared.MineTurn.{MineTurn}
 use Rattle.mine.specs.Calls.{moveCall, gravityCall, tickCall}
 use Rattle.mine.specs.Picture.{pictureOf}
 use Rattle.mine.specs.declared.calls.MineAnswer.{MineAnswer}
-use Rattle.words.specs.Numbers.{MARK, byteAt, wordAt}
-use Rattle.verdict.specs.declared.Head.{Head}
-use Rattle.verdict.specs.declared.Part.{Part}
+use Rattle.trace_words.specs.Numbers.{MARK, byteAt, wordAt}
+use Rattle.trace_verdict.specs.declared.Head.{Head}
+use Rattle.trace_verdict.specs.declared.Part.{Part}
 use Rattle.replay_shared.specs.Either.{onEither}
 use Rattle.replay_shared.specs.Shared.{exactly, atLeast, mineTold, drawn, staleOf}
 

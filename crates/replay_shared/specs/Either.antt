@@ -10,11 +10,11 @@ use Rattle.pace.specs.declared.Pace.{Pace}
 use Rattle.mine_rules.specs.Load.{loaded}
 use Rattle.cutter.specs.Calls.{roundCall}
 use Rattle.cutter.specs.declared.calls.CutterAnswer.{CutterAnswer}
-use Rattle.words.specs.Numbers.{PLACE, wordAt}
-use Rattle.verdict.specs.declared.Head.{Head}
-use Rattle.verdict.specs.declared.Part.{Part}
-use Rattle.verdict.specs.declared.Part.the-variants.{Unread}
-use Rattle.questions.specs.Asked.{mineAsked, moverAsked}
+use Rattle.trace_words.specs.Numbers.{PLACE, wordAt}
+use Rattle.trace_verdict.specs.declared.Head.{Head}
+use Rattle.trace_verdict.specs.declared.Part.{Part}
+use Rattle.trace_verdict.specs.declared.Part.the-variants.{Unread}
+use Rattle.trace_questions.specs.Asked.{mineAsked, moverAsked}
 use Rattle.replay_shared.specs.Shared.{exactly, atLeast, stays, mineTold, cutterTold}
 
 module _ (h : Head) (args current state result : List ℕ) where

@@ -7,13 +7,13 @@ use lib.ListN.{length, replicate}
 use Rattle.mine_state.specs.declared.Mine.{Mine}
 use Rattle.cutter_state.specs.declared.Cutter.{Cutter}
 use Rattle.pace.specs.declared.Pace.{Pace}
-use Rattle.words.specs.Numbers.{MARK, wordAt}
-use Rattle.trace.specs.Mines.{mineBytes}
-use Rattle.trace.specs.Cutters.{cutterBytes}
-use Rattle.verdict.specs.Compare.{RECORD, compared}
-use Rattle.verdict.specs.declared.Head.{Head}
-use Rattle.verdict.specs.declared.Part.{Part}
-use Rattle.verdict.specs.declared.Part.the-variants.{Unread}
+use Rattle.trace_words.specs.Numbers.{MARK, wordAt}
+use Rattle.trace_states.specs.Mines.{mineBytes}
+use Rattle.trace_states.specs.Cutters.{cutterBytes}
+use Rattle.trace_verdict.specs.Compare.{RECORD, compared}
+use Rattle.trace_verdict.specs.declared.Head.{Head}
+use Rattle.trace_verdict.specs.declared.Part.{Part}
+use Rattle.trace_verdict.specs.declared.Part.the-variants.{Unread}
 
 -- each byte of a frame before its picture, and more bytes than any part of an entry has
 abbrev pub STALE : ℕ

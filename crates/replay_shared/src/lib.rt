@@ -2,23 +2,23 @@
 use cutter_state::Cutter;
 use mine_state::Mine;
 use pace::Pace;
-use questions::NONE;
-use questions::mine_asked;
-use questions::mover_asked;
-use trace::CUTTER;
-use trace::MINE;
-use trace::put_cutter;
-use trace::put_mine;
-use verdict::Head;
-use verdict::Part;
-use verdict::compared_with;
-use words::MARK;
-use words::PLACE;
-use words::word;
+use trace_questions::NONE;
+use trace_questions::mine_asked;
+use trace_questions::mover_asked;
+use trace_states::CUTTER;
+use trace_states::MINE;
+use trace_states::put_cutter;
+use trace_states::put_mine;
+use trace_verdict::Head;
+use trace_verdict::Part;
+use trace_verdict::compared_with;
+use trace_words::MARK;
+use trace_words::PLACE;
+use trace_words::word;
 ghost use mathlib.Core.Path.{_≡_};
 ghost use lib.ListN.{length};
 ghost use Prim.Native.Nat.{_≤_};
-ghost use Rattle.verdict.specs.Compare.{RECORD};
+ghost use Rattle.trace_verdict.specs.Compare.{RECORD};
 ghost use Rattle.replay_shared.specs.Shared.{MOST, staleOf, marksAt, mineTold, cutterTold};
 ghost use Rattle.replay_shared.specs.Either.{mineLoaded, roundBegun, pageTold, onEither};
 
@@ -55,7 +55,7 @@ pub fn marks_of(current: &[u8]) -> Pace
 {
     let n = current.len();
     Pace {
-        first: word(current, n - verdict::RECORD, MARK) as u32,
+        first: word(current, n - trace_verdict::RECORD, MARK) as u32,
         second: word(current, n - MARK, MARK) as u32,
     }
 }

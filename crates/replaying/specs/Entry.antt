@@ -4,11 +4,11 @@ use mathlib.Core.List.{List}
 use Prim.Native.Nat.{ℕ}
 use lib.Dec.{eqb}
 use lib.ListN.{length}
-use Rattle.trace.specs.Mines.{MINE, mineOf}
-use Rattle.trace.specs.Cutters.{CUTTER, cutterOf}
-use Rattle.verdict.specs.declared.Head.{Head}
-use Rattle.verdict.specs.declared.Part.{Part}
-use Rattle.verdict.specs.declared.Part.the-variants.{Same, Unread}
+use Rattle.trace_states.specs.Mines.{MINE, mineOf}
+use Rattle.trace_states.specs.Cutters.{CUTTER, cutterOf}
+use Rattle.trace_verdict.specs.declared.Head.{Head}
+use Rattle.trace_verdict.specs.declared.Part.{Part}
+use Rattle.trace_verdict.specs.declared.Part.the-variants.{Same, Unread}
 use Rattle.replay_shared.specs.Shared.{marksAt}
 use Rattle.replay_mine.specs.Mines.{onMine}
 use Rattle.replay_cutter.specs.Cutters.{onCutter}

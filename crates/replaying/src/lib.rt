@@ -1,18 +1,18 @@
 // One entry of a trace: its call is made through the public calls, and what it gives is compared
 // with what the entry tells.
-use questions::NONE;
 use replay_cutter::on_cutter;
 use replay_mine::on_mine;
-use trace::CUTTER;
-use trace::MINE;
-use verdict::Head;
-use verdict::Part;
+use trace_questions::NONE;
+use trace_states::CUTTER;
+use trace_states::MINE;
+use trace_verdict::Head;
+use trace_verdict::Part;
 ghost use mathlib.Core.Bool.{_||_};
 ghost use mathlib.Core.List.{[]};
 ghost use mathlib.Core.Path.{_≡_};
 ghost use lib.Dec.{eqb};
-ghost use Rattle.trace.specs.Mines.{MINE};
-ghost use Rattle.trace.specs.Cutters.{CUTTER};
+ghost use Rattle.trace_states.specs.Mines.{MINE};
+ghost use Rattle.trace_states.specs.Cutters.{CUTTER};
 ghost use Rattle.replaying.specs.Entry.{setTo, judged};
 
 // The entry that sets the current state.

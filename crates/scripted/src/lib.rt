@@ -1,7 +1,7 @@
 // A script of bytes, one to a turn, with a clock of its own.
+use console_turns::DRAWS;
 use libc::STDIN_FILENO;
 use std::num::wrapping_add_u32;
-use turns::DRAWS;
 ghost use Prim.Native.Nat.{_≤_};
 ghost use lib.ListN.{length};
 
@@ -17,8 +17,8 @@ fn play_mine(bytes: &[u8]) -> usize
     ensures { λ r. ⌜ r ≤ length (now (bytes .entry)) ⌝ }
 {
     let mut time: u32 = 0;
-    let mut p = turns::mine_start(time);
-    let mut waits = keys::PLAIN;
+    let mut p = console_turns::mine_start(time);
+    let mut waits = console_keys::PLAIN;
     let mut i: usize = 0;
     while i < bytes.len() {
         let b = bytes[i];
@@ -27,12 +27,12 @@ fn play_mine(bytes: &[u8]) -> usize
             return i;
         }
         if b == SHOW {
-            screens::show(screens::mine_screen(p));
+            console_screens::show(console_screens::mine_screen(p));
         } else {
             time = wrapping_add_u32(time, STEP);
             let mut key = [b];
-            waits = keys::hear(waits, &mut key);
-            p = turns::mine_turn(p, &key, time);
+            waits = console_keys::hear(waits, &mut key);
+            p = console_turns::mine_turn(p, &key, time);
         }
     }
     i
@@ -41,28 +41,28 @@ fn play_mine(bytes: &[u8]) -> usize
 // Plays Block Cutter.
 fn play_cutter(bytes: &[u8], draws: [u8; DRAWS]) {
     let mut time: u32 = 0;
-    let n = screens::within(turns::ROUND, &draws);
-    let mut p = turns::cutter_start(&draws[..n], time);
-    let mut waits = keys::PLAIN;
+    let n = console_screens::within(console_turns::ROUND, &draws);
+    let mut p = console_turns::cutter_start(&draws[..n], time);
+    let mut waits = console_keys::PLAIN;
     let mut i: usize = 0;
     while i < bytes.len() {
         let b = bytes[i];
         i += 1;
         if b == SHOW {
-            screens::show(screens::cutter_screen(p));
+            console_screens::show(console_screens::cutter_screen(p));
         } else {
             time = wrapping_add_u32(time, STEP);
             let mut key = [b];
-            waits = keys::hear(waits, &mut key);
-            let k = screens::within(turns::cutter_draws(p), &draws);
-            p = turns::cutter_turn(p, &key, &draws[..k], time);
+            waits = console_keys::hear(waits, &mut key);
+            let k = console_screens::within(console_turns::cutter_draws(p), &draws);
+            p = console_turns::cutter_turn(p, &key, &draws[..k], time);
         }
     }
 }
 
 pub fn play_script(word: [u8; DRAWS]) {
     let mut draws = word;
-    turns::to_draws(&mut draws);
+    console_turns::to_draws(&mut draws);
     let mut input = io::large_buffer();
     let n = io::read_full(STDIN_FILENO, &mut input);
     let text = &input[..n];

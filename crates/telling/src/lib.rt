@@ -1,6 +1,6 @@
 // What a replay tells on standard output.
 use libc::STDOUT_FILENO;
-use verdict::Part;
+use trace_verdict::Part;
 
 fn say(text: &[u8]) {
     io::write_all(STDOUT_FILENO, text);

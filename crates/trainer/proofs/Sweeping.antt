@@ -5,9 +5,9 @@ use mathlib.Core.Logic.{⊎-elim}
 use Prim.Native.Nat.{ℕ, suc, _*_, _≤_, _<_}
 use native.Mathlib.Omega.{arith}
 use lib.ListN.{length, getD}
-use Rattle.ground.specs.Cells.{CN}
-use Rattle.joined.proofs.Joined.{black?}
-use Rattle.joined.proofs.Labels.{total}
+use Rattle.cutter_ground.specs.Cells.{CN}
+use Rattle.cutter_joined.proofs.Joined.{black?}
+use Rattle.cutter_joined.proofs.Labels.{total}
 use Rattle.cutter_sweeps.specs.Sweeps.{Sweeps}
 use Rattle.cutter_sweeps.proofs.Low.{sweeps-low}
 

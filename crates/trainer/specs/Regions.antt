@@ -4,8 +4,8 @@ use Prim.Native.Nat.{ℕ}
 use lib.Dec.{eqb}
 use lib.ListN.{getD}
 use Rattle.laws.specs.Lists.{count}
-use Rattle.ground.specs.Cells.{CN, cellOf}
-use Rattle.ground.specs.declared.Mover.{Mover}
+use Rattle.cutter_ground.specs.Cells.{CN, cellOf}
+use Rattle.cutter_ground.specs.declared.Mover.{Mover}
 
 -- the creatures that stand on cells with the number k
 abbrev pub onNumber : List ℕ → ℕ → List Mover → ℕ

@@ -1,16 +1,16 @@
 // What is told of a closing: its sweeps, then the regions they leave.
-use capture::MAX_COMP;
+use cutter_capture::MAX_COMP;
+use cutter_ground::CB_BLACK;
+use cutter_ground::CN;
+use cutter_ground::CW;
+use cutter_ground::MAX_ENEMIES;
+use cutter_ground::Mover;
 use cutter_state::Cutter;
-use ground::CB_BLACK;
-use ground::CN;
-use ground::CW;
-use ground::MAX_ENEMIES;
-use ground::Mover;
 use libc::STDOUT_FILENO;
 ghost use mathlib.Core.Path.{_≡_};
 ghost use lib.ListN.{length, getD, take};
 ghost use Rattle.laws.specs.Lists.{tally};
-ghost use Rattle.ground.specs.Cells.{CN};
+ghost use Rattle.cutter_ground.specs.Cells.{CN};
 ghost use Rattle.cutter_sweeps.specs.Sweeps.{Settled};
 ghost use Rattle.cutter_sweeps.specs.Table.{Numbers};
 ghost use Rattle.trainer.specs.Regions.{onNumber};
@@ -82,7 +82,7 @@ fn creatures_on(nums: &[u16; CN], enemies: [Mover; MAX_ENEMIES], count: usize, n
     let mut i: usize = 0;
     while i < MAX_ENEMIES {
         let e = enemies[i];
-        let stands = number_at(nums, ground::cell_of(e)) == number;
+        let stands = number_at(nums, cutter_ground::cell_of(e)) == number;
         if (i < count) & stands {
             n += 1;
         }
@@ -137,7 +137,7 @@ fn tell_regions(nums: &[u16; CN], enemies: [Mover; MAX_ENEMIES], count: usize, a
 // The step that closes c's line makes game.
 pub fn tell_closing(c: Cutter, game: Cutter) {
     let mut grid = c.grid;
-    capture::claim_line(&mut grid);
+    cutter_capture::claim_line(&mut grid);
     let mut nums = [0u16; CN];
     tell_sweeps(&grid, &mut nums);
     let enemies = c.enemies;

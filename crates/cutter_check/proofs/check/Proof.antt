@@ -6,7 +6,7 @@ use lib.ListN.{length}
 use borrow.Author.Tests.{eq-eqb, not-true, not-false}
 use borrow.Author.Needs.{needs}
 use Rattle.laws.proofs.Lists.{mapped}
-use Rattle.ground.specs.Cells.{MAX-ENEMIES}
+use Rattle.cutter_ground.specs.Cells.{MAX-ENEMIES}
 use Rattle.cutter_state.specs.WellFormed.{playerOk, creaturesOk, refusalOf}
 use Rattle.cutter_check.proofs.check.Statement.{statement}
 use Rattle.cutter_check.proofs.check.Tie as tie

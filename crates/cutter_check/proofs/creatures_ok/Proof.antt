@@ -4,7 +4,7 @@ use Prim.Native.Nat.{_<_}
 use native.Mathlib.Omega.{arith}
 use borrow.Author.Tests.{le-leb, lt-leb}
 use borrow.Author.Needs.{needs}
-use Rattle.ground.specs.Cells.{MAX-ENEMIES}
+use Rattle.cutter_ground.specs.Cells.{MAX-ENEMIES}
 use Rattle.cutter_check.proofs.creatures_ok.Statement.{statement}
 use Rattle.cutter_check.proofs.creatures_ok.Tie as tie
 

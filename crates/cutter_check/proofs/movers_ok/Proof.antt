@@ -7,7 +7,7 @@ use borrow.Author.Tests.{not-true, not-false}
 use borrow.Author.Needs.{needs}
 use Rattle.laws.proofs.Lists.{mapped, taken-one, taken-end, all-more, all-fails, all-end}
 use Rattle.laws.specs.Lists.{all}
-use Rattle.ground.specs.Cells.{MAX-ENEMIES}
+use Rattle.cutter_ground.specs.Cells.{MAX-ENEMIES}
 use Rattle.cutter_state.specs.WellFormed.{moverOk}
 use Rattle.cutter_check.proofs.movers_ok.Statement.{statement}
 use Rattle.cutter_check.proofs.movers_ok.Tie as tie

@@ -6,7 +6,7 @@ use borrow.Author.Tests.{not-true, not-false}
 use borrow.Author.Needs.{needs}
 use Rattle.laws.proofs.Lists.{mapped, mapped-below, drop-one, drop-end, all-more, all-fails, all-end}
 use Rattle.laws.specs.Lists.{all}
-use Rattle.ground.specs.Cells.{MAX-ENEMIES}
+use Rattle.cutter_ground.specs.Cells.{MAX-ENEMIES}
 use Rattle.cutter_state.specs.WellFormed.{blank}
 use Rattle.cutter_check.proofs.rest_blank.Statement.{statement}
 use Rattle.cutter_check.proofs.rest_blank.Tie as tie

@@ -8,8 +8,8 @@ use denote.Ref.{now}
 use Rattle.laws.specs.Lists.{table}
 use Rattle.laws.proofs.Lists.{drop-replicate}
 use Rattle.laws.proofs.Table.{length-table, table-none, table-more}
-use Rattle.ground.specs.Cells.{MAX-ENEMIES}
-use Rattle.closing.specs.Closing.{blank}
+use Rattle.cutter_ground.specs.Cells.{MAX-ENEMIES}
+use Rattle.cutter_closing.specs.Closing.{blank}
 use Rattle.cutter_rules.specs.Level.{drawn}
 use Rattle.cutter_level.proofs.Draws.{draws-each}
 use Rattle.cutter_level.proofs.drawn_enemies.Statement.{statement}

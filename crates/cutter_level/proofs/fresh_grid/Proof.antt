@@ -2,7 +2,7 @@ use mathlib.Core.Path.{ap, _∙_}
 use borrow.Author.Needs.{needs}
 use lib.ListN.{length}
 use Rattle.laws.specs.Lists.{across}
-use Rattle.ground.specs.Cells.{CH}
+use Rattle.cutter_ground.specs.Cells.{CH}
 use Rattle.cutter_level.specs.Ring.{claimColumn}
 use Rattle.cutter_level.proofs.Ring.{ring-claimed, rows-length}
 use Rattle.cutter_level.proofs.fresh_grid.Statement.{statement}

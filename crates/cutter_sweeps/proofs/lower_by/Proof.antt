@@ -5,8 +5,8 @@ use native.Mathlib.Omega.{arith}
 use lib.ListN.{getD}
 use denote.Ref.{now}
 use Rattle.laws.proofs.Lists.{getD-default}
-use Rattle.ground.specs.Cells.{CN, CB-FILLED}
-use Rattle.joined.proofs.Joined.{black-in}
+use Rattle.cutter_ground.specs.Cells.{CN, CB-FILLED}
+use Rattle.cutter_joined.proofs.Joined.{black-in}
 use Rattle.cutter_sweeps.specs.Sweeps.{lower}
 use Rattle.cutter_sweeps.specs.Table.{Numbers}
 use Rattle.cutter_sweeps.proofs.Low.{lower-in, lower-out}

@@ -2,7 +2,7 @@ use native.Mathlib.Omega.{arith}
 use lib.ListN.{getD}
 use denote.Ref.{now}
 use Rattle.laws.proofs.Lists.{getD-default}
-use Rattle.ground.specs.Cells.{CN}
+use Rattle.cutter_ground.specs.Cells.{CN}
 use Rattle.cutter_sweeps.proofs.Sweeping.{low-is}
 use borrow.Author.Needs.{needs}
 use Rattle.cutter_sweeps.proofs.lowest.Statement.{statement}

@@ -3,7 +3,7 @@ use Prim.Native.Nat.{ℕ, _+_, _-_, _<_}
 use native.Mathlib.Omega.{arith}
 use lib.ListN.{getD}
 use denote.Ref.{now}
-use Rattle.ground.specs.Cells.{CN}
+use Rattle.cutter_ground.specs.Cells.{CN}
 use Rattle.cutter_sweeps.proofs.Low.{sweeps-low}
 use Rattle.cutter_sweeps.proofs.Telling.{Telling, telling-start, telling-pass, telling-again, telling-new, reached-below}
 use Rattle.cutter_sweeps.proofs.numbers_left.Statement.{statement}

@@ -8,7 +8,7 @@ use denote.Ref.{now}
 use Rattle.laws.specs.Lists.{table}
 use Rattle.laws.proofs.Lists.{getD-default}
 use Rattle.laws.proofs.Table.{table-none, table-more, table-whole}
-use Rattle.ground.specs.Cells.{CN, CB-FILLED, cellAt}
+use Rattle.cutter_ground.specs.Cells.{CN, CB-FILLED, cellAt}
 use Rattle.cutter_sweeps.specs.Sweeps.{ownOf, owns}
 use Rattle.cutter_sweeps.proofs.own_numbers.Statement.{statement}
 use Rattle.cutter_sweeps.proofs.own_numbers.Tie as tie

@@ -1,6 +1,6 @@
 use native.Mathlib.Omega.{arith}
 use Prim.Native.Nat.{_+_}
-use Rattle.joined.proofs.Labels.{total}
+use Rattle.cutter_joined.proofs.Labels.{total}
 use Rattle.cutter_sweeps.proofs.Sweeping.{Settling, settling-start, settling-more}
 use Rattle.cutter_sweeps.proofs.settle.Statement.{statement}
 use Rattle.cutter_sweeps.proofs.settle.Tie as tie

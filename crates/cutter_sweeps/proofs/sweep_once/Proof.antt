@@ -6,7 +6,7 @@ use native.Mathlib.Omega.{arith}
 use lib.ListN.{getD}
 use denote.Ref.{now}
 use Rattle.laws.proofs.Lists.{getD-default}
-use Rattle.ground.specs.Cells.{CN, CB-FILLED}
+use Rattle.cutter_ground.specs.Cells.{CN, CB-FILLED}
 use Rattle.cutter_sweeps.proofs.Sweeping.{Sweeping, sweeping-start, sweeping-lower, sweeping-kept, sweeping-end}
 use Rattle.cutter_sweeps.proofs.sweep_once.Statement.{statement}
 use Rattle.cutter_sweeps.proofs.sweep_once.Tie as tie

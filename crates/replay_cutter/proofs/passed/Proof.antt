@@ -7,7 +7,7 @@ use mathlib.Core.List.{List}
 use Prim.Native.Nat.{ℕ, _+_, _-_, _<_, _≤_}
 use lib.ListN.{length, take, drop}
 use Rattle.cutter_pass.specs.Pass.{passAt, marksOf}
-use Rattle.questions.proofs.Parts.{rest-is}
+use Rattle.trace_questions.proofs.Parts.{rest-is}
 use Rattle.replay_shared.specs.Shared.{atLeast, cutterTold}
 use Rattle.replay_cutter.specs.Cutters.{BEFORE-KEYS, keyCount, cutterPassed, turned}
 use Rattle.replay_cutter.proofs.passed.Statement.{statement}

@@ -4,7 +4,7 @@ use mathlib.Core.Path.{refl, ap, _∙_}
 use borrow.Author.Tests.{eq-eqb, ne-eqb}
 use mathlib.Core.List.{List}
 use Prim.Native.Nat.{ℕ}
-use Rattle.words.proofs.Lays.{lays-both, lays-whole}
+use Rattle.trace_words.proofs.Lays.{lays-both, lays-whole}
 use Rattle.replay_shared.specs.Shared.{exactly, stays}
 use Rattle.replay_cutter.specs.Cutters.{cutterReported, ground}
 use Rattle.replay_cutter.proofs.reported.Statement.{statement}

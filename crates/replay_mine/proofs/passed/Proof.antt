@@ -6,8 +6,8 @@ use mathlib.Core.List.{List}
 use Prim.Native.Nat.{ℕ}
 use lib.ListN.{drop}
 use Rattle.mine_pass.specs.Pass.{passAt, marksOf}
-use Rattle.words.specs.Numbers.{MARK}
-use Rattle.questions.proofs.Parts.{rest-is}
+use Rattle.trace_words.specs.Numbers.{MARK}
+use Rattle.trace_questions.proofs.Parts.{rest-is}
 use Rattle.replay_shared.specs.Shared.{atLeast, mineTold}
 use Rattle.replay_mine.specs.Mines.{minePassed, turned}
 use Rattle.replay_mine.proofs.passed.Statement.{statement}

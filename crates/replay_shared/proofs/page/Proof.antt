@@ -6,8 +6,8 @@ use mathlib.Core.List.{List}
 use Prim.Native.Nat.{ℕ}
 use lib.ListN.{drop}
 use Rattle.frame.specs.Frame.{pageOf}
-use Rattle.words.specs.Numbers.{PLACE}
-use Rattle.questions.proofs.Parts.{rest-is}
+use Rattle.trace_words.specs.Numbers.{PLACE}
+use Rattle.trace_questions.proofs.Parts.{rest-is}
 use Rattle.replay_shared.specs.Shared.{atLeast, stays}
 use Rattle.replay_shared.specs.Either.{pageTold}
 use Rattle.replay_shared.proofs.page.Statement.{statement}

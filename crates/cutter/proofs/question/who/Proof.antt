@@ -56,14 +56,14 @@ use Rattle.found.specs.declared.Found.the-variants.{At, Nobody}
 use Rattle.found.proofs.First.{numbered, numbered-none, numbered-told, back-room, back-here, back-more}
 use Rattle.found.proofs.Found as F
 use Rattle.found.proofs.Found.Laws as F′
-use Rattle.ground.specs.Cells.{standsAt}
-use Rattle.ground.specs.declared.Mover.{Mover}
-use Rattle.ground.proofs.Mover as E
-use Rattle.ground.proofs.Mover.Laws as E′
-use Rattle.ground.proofs.stands_at as here
-use Rattle.ground.proofs.stands_at.Symbol as here-def
-use Rattle.ground.proofs.stands_at.Symbol.{name as #here}
-use Rattle.ground.proofs.stands_at.Met as here-thm
+use Rattle.cutter_ground.specs.Cells.{standsAt}
+use Rattle.cutter_ground.specs.declared.Mover.{Mover}
+use Rattle.cutter_ground.proofs.Mover as E
+use Rattle.cutter_ground.proofs.Mover.Laws as E′
+use Rattle.cutter_ground.proofs.stands_at as here
+use Rattle.cutter_ground.proofs.stands_at.Symbol as here-def
+use Rattle.cutter_ground.proofs.stands_at.Symbol.{name as #here}
+use Rattle.cutter_ground.proofs.stands_at.Met as here-thm
 use Rattle.cutter.specs.Question.{whoAt}
 use Rattle.cutter.proofs.question.who.Key.{name as #who}
 use Rattle.cutter.proofs.question.who as who

@@ -49,9 +49,9 @@ use Rattle.found.specs.declared.Found.{Found}
 use Rattle.found.proofs.Part.{Slice, Kept, lends-part, part-back}
 use Rattle.found.proofs.Found as F
 use Rattle.found.proofs.Found.Laws as F′
-use Rattle.ground.specs.declared.Mover.{Mover}
-use Rattle.ground.proofs.Mover as E
-use Rattle.ground.proofs.Mover.Laws as E′
+use Rattle.cutter_ground.specs.declared.Mover.{Mover}
+use Rattle.cutter_ground.proofs.Mover as E
+use Rattle.cutter_ground.proofs.Mover.Laws as E′
 use Rattle.cutter.specs.Question.{whoAt}
 use Rattle.cutter.proofs.question.who as who
 use Rattle.cutter.proofs.question.who.Symbol as who-def

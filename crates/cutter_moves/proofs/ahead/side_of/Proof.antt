@@ -1,6 +1,6 @@
 use mathlib.Core.Path.{_∙_}
 use borrow.Author.Needs.{needs}
-use Rattle.ground.specs.Cells.{leftOf, rightOf}
+use Rattle.cutter_ground.specs.Cells.{leftOf, rightOf}
 use Rattle.cutter_state.proofs.Signs.{below, above}
 use Rattle.cutter_moves.proofs.Along.{along-back, along-on, along-none}
 use Rattle.cutter_moves.proofs.ahead.side_of.Statement.{statement}

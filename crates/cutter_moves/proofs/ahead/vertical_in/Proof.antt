@@ -3,7 +3,7 @@ use Prim.Native.Nat.{_+_, _-_}
 use native.Mathlib.Omega.{arith}
 use borrow.Author.Needs.{needs}
 use borrow.Author.Tests.{lt-ltb, le-ltb}
-use Rattle.ground.specs.Cells.{CW, CN, upOf, downOf}
+use Rattle.cutter_ground.specs.Cells.{CW, CN, upOf, downOf}
 use Rattle.cutter_state.proofs.Signs.{below}
 use Rattle.cutter_moves.proofs.Along.{along-back, along-unit}
 use Rattle.cutter_moves.proofs.ahead.vertical_in.Statement.{statement}

@@ -5,7 +5,7 @@ use lib.Dec.{eqb}
 use mir.Facts.{toZ-ofZ}
 use mir.Syntax.{w8}
 use mir.Val.{SFits}
-use Rattle.ground.specs.Cells.{CB-BLACK}
+use Rattle.cutter_ground.specs.Cells.{CB-BLACK}
 use Rattle.cutter_state.proofs.Signs.{kept}
 use Rattle.cutter_state.specs.WellFormed.{isUnit}
 use Rattle.cutter_moves.proofs.Roaming.{turned-unit, bounce-seen}

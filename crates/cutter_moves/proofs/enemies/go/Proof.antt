@@ -5,7 +5,7 @@ use borrow.Author.Tests.{eq-eqb, ne-eqb}
 use mir.Facts.{toZ-ofZ}
 use denote.Ref.{now}
 use Rattle.laws.proofs.Lists.{getD-default}
-use Rattle.ground.specs.Cells.{CB-FILLED}
+use Rattle.cutter_ground.specs.Cells.{CB-FILLED}
 use Rattle.cutter_rules.specs.Ahead.{sideOf}
 use Rattle.cutter_rules.proofs.Tick.{gone-there, gone-not}
 use Rattle.cutter_moves.proofs.enemies.go.Statement.{statement}

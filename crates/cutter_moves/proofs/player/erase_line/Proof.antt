@@ -5,7 +5,7 @@ use native.Mathlib.Omega.{arith}
 use borrow.Author.Needs.{needs}
 use lib.ListN.{length, take, drop, length-set}
 use Rattle.laws.proofs.Lists.{map-more, map-end}
-use Rattle.ground.specs.Cells.{CN}
+use Rattle.cutter_ground.specs.Cells.{CN}
 use Rattle.cutter_rules.specs.Step.{lineErased}
 use Rattle.cutter_moves.proofs.player.erase_line.Statement.{statement}
 use Rattle.cutter_moves.proofs.player.erase_line.Tie as tie

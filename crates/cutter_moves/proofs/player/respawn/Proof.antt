@@ -3,8 +3,8 @@ use lib.ListN.{length, length-map}
 use mathlib.Core.List.{map}
 use mathlib.Core.Path.{_≡_, ap, _∙_}
 use borrow.Author.Needs.{needs}
-use Rattle.ground.specs.Cells.{CN}
-use Rattle.border.proofs.Nearest.{walk-at}
+use Rattle.cutter_ground.specs.Cells.{CN}
+use Rattle.cutter_border.proofs.Nearest.{walk-at}
 use Rattle.cutter_state.specs.declared.Cutter.{Cutter}
 use Rattle.cutter_state.specs.Change.{withGrid}
 use Rattle.cutter_rules.specs.Level.{atStart}

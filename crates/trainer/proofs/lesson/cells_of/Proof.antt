@@ -11,7 +11,7 @@ use lib.ListN.{drop}
 use denote.Ref.{now}
 use Rattle.laws.specs.Lists.{tally}
 use Rattle.laws.proofs.Lists.{drop-one, drop-end, count-hit, count-miss, count-end}
-use Rattle.ground.specs.Cells.{CN}
+use Rattle.cutter_ground.specs.Cells.{CN}
 use Rattle.trainer.proofs.lesson.cells_of.Statement.{statement}
 use Rattle.trainer.proofs.lesson.cells_of.Tie as tie
 

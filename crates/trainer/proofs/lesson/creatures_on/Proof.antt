@@ -11,8 +11,8 @@ use lib.Seq.{take-all}
 use denote.Ref.{now}
 use Rattle.laws.specs.Lists.{bit}
 use Rattle.laws.proofs.Lists.{mapped}
-use Rattle.ground.specs.Cells.{CN, MAX-ENEMIES, cellOf}
-use Rattle.closing.specs.Closing.{blank}
+use Rattle.cutter_ground.specs.Cells.{CN, MAX-ENEMIES, cellOf}
+use Rattle.cutter_closing.specs.Closing.{blank}
 use Rattle.trainer.proofs.Creatures.{count-slot}
 use Rattle.trainer.specs.Regions.{onNumber}
 use Rattle.trainer.proofs.lesson.creatures_on.Statement.{statement}

@@ -5,7 +5,7 @@ use native.Mathlib.Omega.{arith}
 use lib.ListN.{List·getD-eq-default}
 use denote.Ref.{now}
 use Rattle.laws.proofs.Lists.{getD-default}
-use Rattle.ground.specs.Cells.{CN}
+use Rattle.cutter_ground.specs.Cells.{CN}
 use Rattle.trainer.proofs.lesson.number_at.Statement.{statement}
 use Rattle.trainer.proofs.lesson.number_at.Tie as tie
 

@@ -2,8 +2,8 @@
 use mathlib.Core.Path.{_≡_, ap, _∙_}
 use Prim.Native.Nat.{ℕ}
 use lib.ListN.{length, length-replicate}
-use Rattle.ground.specs.Cells.{CN}
-use Rattle.closing.proofs.Labels.{length-claimLine}
+use Rattle.cutter_ground.specs.Cells.{CN}
+use Rattle.cutter_closing.proofs.Labels.{length-claimLine}
 use Rattle.cutter_sweeps.proofs.Low.{settled-right}
 use borrow.Author.Needs.{needs}
 use Rattle.trainer.proofs.lesson.tell_closing.Statement.{statement}

@@ -3,7 +3,7 @@ use borrow.Author.Needs.{needs}
 use mathlib.Core.Logic.{⊎-elim}
 use Prim.Native.Nat.{_-_, _≤_}
 use native.Mathlib.Omega.{arith}
-use Rattle.ground.specs.Cells.{CN}
+use Rattle.cutter_ground.specs.Cells.{CN}
 use Rattle.trainer.proofs.lesson.tell_regions.Statement.{statement}
 use Rattle.trainer.proofs.lesson.tell_regions.Tie as tie
 

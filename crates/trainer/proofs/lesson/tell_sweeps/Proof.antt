@@ -2,8 +2,8 @@
 use borrow.Author.Needs.{needs}
 use native.Mathlib.Omega.{arith}
 use Prim.Native.Nat.{_+_, _*_, _≤_}
-use Rattle.ground.specs.Cells.{CN}
-use Rattle.joined.proofs.Labels.{total}
+use Rattle.cutter_ground.specs.Cells.{CN}
+use Rattle.cutter_joined.proofs.Labels.{total}
 use Rattle.cutter_sweeps.proofs.Sweeping.{Settling, settling-start, settling-more}
 use Rattle.trainer.proofs.Sweeping.{sweeps-most}
 use Rattle.trainer.proofs.lesson.tell_sweeps.Statement.{statement}

@@ -1,0 +1,24 @@
+-- `console_turns::cutter_start` meets its contract. Assumes nothing.
+use Rattle.console_turns.specs.Turns.{cutterStarted}
+use borrow.Author.Tests.{eq-eqb, ne-eqb}
+use mathlib.Core.Path.{sym}
+use borrow.Author.Needs.{needs}
+use Rattle.console_turns.proofs.cut.cutter_start.Statement.{statement}
+use Rattle.console_turns.proofs.cut.cutter_start.Tie as tie
+
+start-requires : tie.Need-start-requires
+start-requires c κs = search needs
+
+new-round-requires : tie.Need-new-round-requires
+new-round-requires c κs = search needs
+
+returns : tie.Need-returns
+unfolding cutterStarted
+returns c = simp (c .before .before .before .before .start .ensures, sym (c .before .before .before .new-round .ensures), eq-eqb _ _ (c .if1 .taken))
+
+returns-2 : tie.Need-returns-2
+unfolding cutterStarted
+returns-2 c = simp (c .before .before .before .before .start .ensures, sym (c .before .before .before .new-round .ensures), ne-eqb _ _ (c .if1 .left))
+
+pub cutter-start-spec : {M : Type 1} → statement M
+cutter-start-spec = tie.close (tie.spec start-requires new-round-requires returns returns-2)

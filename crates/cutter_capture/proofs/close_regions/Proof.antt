@@ -1,0 +1,58 @@
+use borrow.Author.Needs.{needs}
+use mathlib.Core.Path.{refl}
+use Prim.Native.Nat.{ℕ}
+use lib.ListN.{length-replicate}
+use denote.Ref.{now}
+use Rattle.cutter_ground.specs.Cells.{CN}
+use Rattle.cutter_joined.proofs.Labels.{labels}
+use Rattle.cutter_capture.proofs.Whole.{markable, steps-closed}
+use Rattle.cutter_capture.proofs.close_regions.Statement.{statement}
+use Rattle.cutter_capture.proofs.close_regions.Tie as tie
+
+choose-requires : tie.Need-choose-requires
+choose-requires c κs =
+    let p = c .before .before .before .before .pre in
+    record { cells = p .0 .cells; numbered = p .1; clear = refl; long = length-replicate {A = ℕ} CN 0; closable = p .0 .closable; some = p .0 .some }
+
+mark-requires : tie.Need-mark-requires
+mark-requires c κs =
+    let d = c .before .before in
+    let s = d .before .before .before .before .before in
+    markable (labels (now (s .args .grid)) .1 (s .pre .0 .cells)) (d .choose .ensures)
+
+claim-rest-requires : tie.Need-claim-rest-requires
+claim-rest-requires c κs =
+    let m = c .before .before in
+    let s = m .before .before .before .before .before .before .before .before in
+    (s .pre .0 .cells, m .mark .ensures .len)
+
+keep-of-requires : tie.Need-keep-of-requires
+keep-of-requires c κs = search needs
+
+retain-requires : tie.Need-retain-requires
+retain-requires c κs =
+    let m = c .before .before .before .before .before in
+    let s = m .before .before .before .before .before .before .before .before in
+    (m .mark .ensures .len, s .pre .0 .closable)
+
+returns : tie.Need-returns
+returns c =
+    let k = c .before .before in
+    let r = k .before in
+    let m = r .before .before .before in
+    let d = m .before .before .before in
+    let s = d .before .before .before .before .before in
+    let l = s .pre .0 .cells in
+    steps-closed (labels (now (s .args .grid)) .1 l) (d .choose .ensures) (m .mark .ensures) l (r .claim-rest .last .0) (c .retain .result) (k .keep-of .result)
+    (r .claim-rest .ensures) (k .keep-of .ensures) (c .retain .ensures)
+
+pub close-regions-spec : {M : Type 1} → statement M
+close-regions-spec =
+    tie.close
+    (tie.spec
+    choose-requires
+    mark-requires
+    claim-rest-requires
+    keep-of-requires
+    retain-requires
+    returns)

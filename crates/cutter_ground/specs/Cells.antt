@@ -1,0 +1,69 @@
+-- The 64 by 32 cells of Block Cutter, numbered row by row, and their neighbours.
+use mathlib.Core.Bool.{Bool, cond, _&&_}
+use mathlib.Core.List.{List, [], _∷_}
+use Prim.Native.Nat.{ℕ, _+_, _-_, _*_, _%_}
+use lib.Dec.{eqb, ltb}
+use lib.ListN.{getD}
+use Rattle.laws.specs.Lists.{any, tally}
+use Rattle.cutter_ground.specs.declared.Mover.{Mover}
+
+abbrev pub CW : ℕ
+CW = 64
+
+abbrev pub CH : ℕ
+CH = 32
+
+abbrev pub CN : ℕ
+CN = 2048
+
+-- black, claimed, line
+abbrev pub CB-BLACK : ℕ
+CB-BLACK = 0
+
+abbrev pub CB-FILLED : ℕ
+CB-FILLED = 1
+
+abbrev pub CB-TRAIL : ℕ
+CB-TRAIL = 2
+
+-- at most 16 creatures
+abbrev pub MAX-ENEMIES : ℕ
+MAX-ENEMIES = 16
+
+-- what a cell of the grid holds; off the grid counts as claimed
+abbrev pub cellAt : List ℕ → ℕ → ℕ
+cellAt g c = getD g c CB-FILLED
+
+-- the four neighbours of a cell, CN where there is none
+abbrev pub leftOf : ℕ → ℕ
+leftOf c = cond (ltb 0 (c % CW)) (c - 1) CN
+
+abbrev pub rightOf : ℕ → ℕ
+rightOf c = cond (ltb (c % CW) (CW - 1)) (c + 1) CN
+
+abbrev pub upOf : ℕ → ℕ
+upOf c = cond (ltb c CW) CN (c - CW)
+
+abbrev pub downOf : ℕ → ℕ
+downOf c = cond (ltb c (CN - CW)) (c + CW) CN
+
+abbrev pub blackAt : List ℕ → ℕ → Bool
+blackAt g c = eqb (cellAt g c) CB-BLACK
+
+-- black among the eight neighbours (left and right of CN are off the grid, too)
+abbrev pub onBorder : List ℕ → ℕ → Bool
+onBorder g c =
+    any (blackAt g)
+    (leftOf c ∷ rightOf c ∷ upOf c ∷ downOf c ∷ leftOf (upOf c) ∷ rightOf (upOf c) ∷ leftOf (downOf c) ∷ rightOf (downOf c) ∷ [])
+
+-- how many cells are black
+abbrev pub blackCount : List ℕ → ℕ
+blackCount g = tally CB-BLACK g
+
+-- the cell of a creature
+abbrev pub cellOf : Mover → ℕ
+cellOf m = m .y * CW + m .x
+
+-- a creature stands at (x, y)
+abbrev pub standsAt : ℕ → ℕ → Mover → Bool
+standsAt x y m = eqb (m .x) x && eqb (m .y) y
