@@ -3,6 +3,9 @@
 // up to `|`, then Block Cutter; `=` shows the screen.
 //
 // stdin, args: a play of each. stdout: what the oracle's `console_oracle WORD` prints for it.
+mod live;
+mod scripted;
+
 use console_screens::same;
 use console_turns::DRAWS;
 use libc::STDERR_FILENO;
@@ -17,15 +20,15 @@ fn main() {
     let mut name = [0u8; WORD];
     let k = os::arg(1, &mut name);
     if same(&name[..k], b"mine") {
-        live::play_mine();
+        crate::live::play_mine();
         return;
     }
     if same(&name[..k], b"cutter") {
-        live::play_cutter(fixed, word);
+        crate::live::play_cutter(fixed, word);
         return;
     }
     if same(&name[..k], b"script") {
-        scripted::play_script(word);
+        crate::scripted::play_script(word);
         return;
     }
     io::write_all(

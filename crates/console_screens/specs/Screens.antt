@@ -4,14 +4,14 @@ use mathlib.Core.Path.{_≡_}
 use Prim.Native.Nat.{ℕ}
 use lib.ListN.{replicate}
 use Rattle.text.specs.Puts.{Puts}
-use Rattle.heads.specs.Heads.{HEAD, mineHead, cutterHead}
+use Rattle.console_screens.specs.Heads.{HEAD, mineHead, cutterHead}
 use Rattle.frame.specs.Frame.{FRAME-LEN}
 use Rattle.mine.specs.Picture as Mine
 use Rattle.cutter.specs.Picture as Cutter
 use Rattle.cutter.specs.Calls.{reportCall}
 use Rattle.console_turns.specs.declared.mining.MinePlay.{MinePlay}
 use Rattle.console_turns.specs.declared.cut.CutterPlay.{CutterPlay}
-use Rattle.console_screens.specs.declared.Screen.{Screen}
+use Rattle.console_screens.specs.declared.screens.Screen.{Screen}
 
 -- a head line and a frame that began as zeros
 abbrev blankHead : List ℕ

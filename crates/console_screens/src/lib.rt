@@ -1,95 +1,12 @@
-// What is shown: a head line above the frame.
-use console_turns::CutterPlay;
-use console_turns::MinePlay;
-use frame::FRAME_LEN;
-use heads::HEAD;
-use libc::STDOUT_FILENO;
-ghost use Rattle.io.specs.Counts.{Counts};
-ghost use Rattle.console_screens.specs.Screens.{MineShown, CutterShown};
+// What a terminal shows: the head line and the screen.
+mod heads;
+mod screens;
 
-// A head line, its bytes up to `end`, and a frame.
-pub struct Screen {
-    pub head: [u8; HEAD],
-    pub end: usize,
-    pub frame: [u8; FRAME_LEN],
-}
-
-pub fn mine_screen(p: MinePlay) -> Screen
-    ensures { λ r. ⌜ MineShown p r ⌝ }
-{
-    let m = p.game;
-    let mut head = [0u8; HEAD];
-    let end = heads::mine_head(m.coins, m.needed, p.stands, &mut head);
-    let mut frame = [0u8; FRAME_LEN];
-    mine::render(m, &mut frame);
-    Screen { head, end, frame }
-}
-
-pub fn cutter_screen(p: CutterPlay) -> Screen
-    ensures { λ r. ⌜ CutterShown p r ⌝ }
-{
-    let c = p.game;
-    let ground = cutter::ground_report(c);
-    let mut head = [0u8; HEAD];
-    let end = heads::cutter_head(c.level, c.lives, ground.share, p.stands, &mut head);
-    let mut frame = [0u8; FRAME_LEN];
-    cutter::render(c, &mut frame);
-    Screen { head, end, frame }
-}
-
-// n, or all of a buffer's bytes where n is more.
-pub fn within(n: usize, buf: &[u8]) -> usize
-    ensures { λ r. ⌜ Counts r (now (buf .entry)) ⌝ }
-{
-    if n <= buf.len() {
-        return n;
-    }
-    buf.len()
-}
-
-pub fn same(a: &[u8], b: &[u8]) -> bool {
-    if a.len() != b.len() {
-        return false;
-    }
-    let mut i: usize = 0;
-    while i < a.len() {
-        if a[i] != b[i] {
-            return false;
-        }
-        i += 1;
-    }
-    true
-}
-
-// The head line and the frame, as they stand.
-pub fn show(s: Screen) {
-    let head = s.head;
-    let end = within(s.end, &head);
-    io::write_all(STDOUT_FILENO, &head[..end]);
-    io::write_all(STDOUT_FILENO, b"\n");
-    let frame = s.frame;
-    blocks::put_frame(&frame);
-}
-
-// Shows a screen in place of another, where they differ.
-pub fn refresh(s: Screen, shown: Screen) -> Screen {
-    let frame = s.frame;
-    let before = shown.frame;
-    let head = s.head;
-    let above = shown.head;
-    if same(&frame, &before) {
-        if same(&head, &above) {
-            return s;
-        }
-    }
-    // The cursor to the top left, and the old head line away.
-    io::write_all(STDOUT_FILENO, b"\x1b[H\x1b[K");
-    show(s);
-    s
-}
-
-// A cleared terminal, and the first screen.
-pub fn begin(s: Screen) {
-    io::write_all(STDOUT_FILENO, b"\x1b[2J\x1b[H");
-    show(s);
-}
+pub use screens::Screen;
+pub use screens::begin;
+pub use screens::cutter_screen;
+pub use screens::mine_screen;
+pub use screens::refresh;
+pub use screens::same;
+pub use screens::show;
+pub use screens::within;

@@ -18,5 +18,5 @@
 //   690  commands above 3: 5; 696 the same for Cutter
 //   702  ill-formed states: 1 to 4, each with every call on a state; Cutter's from 981 on
 fn main() {
-    reading::replay(false);
+    trace_reading::replay(false);
 }

@@ -5,5 +5,5 @@
 // `replay_oracle --each` tells of it. A wrong byte of a state or a record shows in a later entry
 // too, which goes on from it.
 fn main() {
-    reading::replay(true);
+    trace_reading::replay(true);
 }

@@ -1,0 +1,62 @@
+-- `trace_calls::shared::page` meets its contract. Assumes nothing.
+use borrow.Author.Needs.{needs}
+use mathlib.Core.Path.{_≡_, ap, subst, _∙_}
+use borrow.Author.Tests.{lt-ltb, le-ltb}
+use mathlib.Core.List.{List}
+use Prim.Native.Nat.{ℕ}
+use lib.ListN.{drop}
+use Rattle.frame.specs.Frame.{pageOf}
+use Rattle.trace_words.specs.Numbers.{PLACE}
+use Rattle.trace_questions.proofs.Parts.{rest-is}
+use Rattle.trace_calls.specs.Shared.{atLeast, stays}
+use Rattle.trace_calls.specs.Either.{pageTold}
+use Rattle.trace_calls.proofs.shared.page.Statement.{statement}
+use Rattle.trace_calls.proofs.shared.page.Tie as tie
+
+returns : tie.Need-returns
+unfolding pageTold atLeast
+returns c = simp (lt-ltb _ _ (c .if1 .taken))
+
+word-requires : tie.Need-word-requires
+word-requires c κs = search needs
+
+sub-page : tie.Need-sub-page
+sub-page c = search needs
+
+part-page-start : tie.Need-part-page-start
+part-page-start c = search needs
+
+part-page-end : tie.Need-part-page-end
+part-page-end c = search needs
+
+page-requires : tie.Need-page-requires
+page-requires c κs = search needs
+
+compared-with-requires : tie.Need-compared-with-requires
+compared-with-requires c κs = search needs
+
+returns-2 : tie.Need-returns-2
+unfolding pageTold atLeast
+returns-2 c =
+    let k1 = c .before .before .before in
+    let k2 = k1 .before in
+    let k3 = k2 .before .before .before .before .before in
+    let a = k3 .args in
+    let l = a .args .now in
+    let w = k1 .«word» in
+    let g = c .before .«page» in
+    let part = subst (λ (x : List ℕ). g .result .now ≡ pageOf x (w .result)) (rest-is PLACE l) (g .ensures) in
+    rw (le-ltb _ _ (k2 .«if1» .left)) (c .«compared-with» .ensures ∙ ap (stays (a .h) (a .current .now) (a .state .now) (a .result .now) 0) (part ∙ ap (pageOf (drop PLACE l)) (w .ensures .is)))
+
+pub page-spec : {M : Type 1} → statement M
+page-spec =
+    tie.close
+    (tie.spec
+    returns
+    word-requires
+    sub-page
+    part-page-start
+    part-page-end
+    page-requires
+    compared-with-requires
+    returns-2)

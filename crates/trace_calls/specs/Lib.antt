@@ -1,0 +1,4 @@
+pub mod Cutters
+pub mod Either
+pub mod Mines
+pub mod Shared
