@@ -8,8 +8,8 @@ use cutter_ground::Mover;
 use cutter_moves::Moved;
 use cutter_moves::Step;
 ghost use mathlib.Core.Path.{_≡_};
-ghost use Rattle.cutter_moves.specs.Moves.{Ticks, tickOf};
-ghost use Rattle.cutter_moves.specs.Steps.{playing, Walks, SteppedOn};
+ghost use Rattle.cutter_moves.specs.CodeMoves.{Ticks, tickOf};
+ghost use Rattle.cutter_moves.specs.CodeSteps.{playing, Walks, SteppedOn};
 
 // The creatures, as a C struct holds them.
 #[repr(C)]

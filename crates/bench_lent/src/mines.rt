@@ -3,10 +3,10 @@ use mine_fall::Fallen;
 use mine_moves::Player;
 use mine_state::AREA;
 use mine_state::MAX_ENEMIES;
-ghost use Rattle.mine_rules.specs.Tick.{ticked};
+ghost use Rattle.mine_rules.specs.Tick.{enemiesMoved};
 ghost use Rattle.mine_rules.specs.Gravity.{gravityOf};
-ghost use Rattle.mine_moves.specs.Steps.{Stands, Steps, Walkers, Ticked};
-ghost use Rattle.mine_fall.specs.Places.{Falling, Dropped};
+ghost use Rattle.mine_moves.specs.CodeSteps.{Stands, Steps, Walkers, Ticked};
+ghost use Rattle.mine_fall.specs.CodePlaces.{Falling, Dropped};
 
 #[no_mangle]
 pub extern "C" fn rule_mine_step_on(
@@ -64,7 +64,7 @@ pub extern "C" fn rule_mine_tick_on(
     py: usize,
 ) -> bool
     requires { ⌜ Walkers (now grid) (now xs) (now ys) (now dirs) count ⌝ }
-    ensures { λ r. ⌜ Ticked ticked (now (grid .entry)) count px py (now (xs .entry)) (now (ys .entry)) (now (dirs .entry)) r (now (xs .exit)) (now (ys .exit)) (now (dirs .exit)) ⌝ }
+    ensures { λ r. ⌜ Ticked enemiesMoved (now (grid .entry)) count px py (now (xs .entry)) (now (ys .entry)) (now (dirs .entry)) r (now (xs .exit)) (now (ys .exit)) (now (dirs .exit)) ⌝ }
 {
     mine_moves::tick_on(grid, xs, ys, dirs, count, px, py)
 }

@@ -5,15 +5,16 @@ use refusal::Refusal;
 ghost use mathlib.Core.Bool.{true};
 ghost use mathlib.Core.Path.{_≡_};
 ghost use Rattle.frame.specs.Frame.{pack};
-ghost use Rattle.cutter_border.specs.Border.{toBorder};
-ghost use Rattle.cutter_state.specs.State.{place};
+ghost use Rattle.cutter_border.specs.CodeBorder.{toBorder};
 ghost use Rattle.cutter_state.specs.WellFormed.{WellFormed, refusalOf};
 ghost use Rattle.cutter_rules.specs.Level.{drawsOk, creaturesOf, freshLevel};
 ghost use Rattle.cutter_rules.specs.Step.{stepped, respawned};
 ghost use Rattle.cutter_rules.specs.Tick.{enemiesStepped};
 ghost use Rattle.cutter_keeps.specs.Sweeps.{sweptStep};
-ghost use Rattle.cutter_moves.specs.Moves.{OnGrid};
-ghost use Rattle.cutter_picture.specs.Picture.{Drawable, cutLit};
+ghost use Rattle.cutter_moves.specs.CodeMoves.{OnGrid};
+ghost use Rattle.cutter_picture.specs.Picture.{cutLit};
+ghost use Rattle.cutter_picture.specs.CodePicture.{Drawable};
+ghost use Rattle.cutter_ground.specs.Cells.{place};
 
 // The copies of a state in and out, and nothing else.
 #[no_mangle]

@@ -3,12 +3,14 @@ use mine_state::Mine;
 use refusal::Refusal;
 ghost use mathlib.Core.Path.{_≡_};
 ghost use Rattle.frame.specs.Frame.{pack};
-ghost use Rattle.mine_state.specs.WellFormed.{WellFormed, Sound, refusalOf};
+ghost use Rattle.mine_state.specs.WellFormed.{WellFormed, refusalOf};
 ghost use Rattle.mine_rules.specs.Load.{loaded};
 ghost use Rattle.mine_rules.specs.Move.{moved};
-ghost use Rattle.mine_rules.specs.Tick.{ticked};
+ghost use Rattle.mine_rules.specs.Tick.{enemiesMoved};
 ghost use Rattle.mine_rules.specs.Gravity.{gravityOf};
-ghost use Rattle.mine_picture.specs.Picture.{Drawable, mineLit};
+ghost use Rattle.mine_picture.specs.Picture.{mineLit};
+ghost use Rattle.mine_state.specs.CodeState.{Sound};
+ghost use Rattle.mine_picture.specs.CodePicture.{Drawable};
 
 // The copies of a state in and out, and nothing else.
 #[no_mangle]
@@ -51,7 +53,7 @@ pub extern "C" fn rule_mine_gravity(m: Mine) -> Mine
 #[no_mangle]
 pub extern "C" fn rule_mine_tick(m: Mine) -> Mine
     requires { ⌜ WellFormed m ⌝ }
-    ensures { λ r. ⌜ r ≡ ticked m ⌝ }
+    ensures { λ r. ⌜ r ≡ enemiesMoved m ⌝ }
 {
     mine_moves::move_enemies(m)
 }

@@ -5,7 +5,7 @@ use libc::STDOUT_FILENO;
 ghost use mathlib.Core.Path.{_≡_};
 ghost use Prim.Native.Nat.{_+_, _<_, _≤_};
 ghost use lib.ListN.{length};
-ghost use Rattle.blocks.specs.Room.{Room, Line};
+ghost use Rattle.blocks.specs.CodeRoom.{Room, Line};
 
 // Lines of text, two rows of pixels each.
 const LINES: usize = 32;

@@ -1,7 +1,7 @@
 // A game by the system's clock, with keys from the terminal.
 use console_screens::within;
 use console_turns::CutterPlay;
-use console_turns::DRAWS;
+use console_turns::MOST_DRAWS;
 use console_turns::MinePlay;
 use console_turns::QUIT;
 use libc::STDIN_FILENO;
@@ -106,7 +106,7 @@ pub fn play_mine() {
 }
 
 // As many draws as a call can take: of the word, or of the system's random bytes.
-fn drawn(fixed: bool, word: [u8; DRAWS]) -> [u8; DRAWS] {
+fn drawn(fixed: bool, word: [u8; MOST_DRAWS]) -> [u8; MOST_DRAWS] {
     let mut bytes = word;
     if fixed {
         console_turns::to_draws(&mut bytes);
@@ -117,12 +117,12 @@ fn drawn(fixed: bool, word: [u8; DRAWS]) -> [u8; DRAWS] {
     bytes
 }
 
-fn cutter_begin(draws: [u8; DRAWS]) -> CutterPlay {
+fn cutter_begin(draws: [u8; MOST_DRAWS]) -> CutterPlay {
     let n = within(console_turns::ROUND, &draws);
     console_turns::cutter_start(&draws[..n], console_clock::reading())
 }
 
-fn cutter_step(c: Cutting, terminal: bool, draws: [u8; DRAWS]) -> Cutting {
+fn cutter_step(c: Cutting, terminal: bool, draws: [u8; MOST_DRAWS]) -> Cutting {
     let mut bytes = [0u8; KEYS];
     let input = listen(terminal, &mut bytes);
     if input.ended {
@@ -144,14 +144,14 @@ fn cutter_step(c: Cutting, terminal: bool, draws: [u8; DRAWS]) -> Cutting {
 }
 
 // The draws of the next turn, made anew where it takes any.
-fn next_draws(p: CutterPlay, fixed: bool, word: [u8; DRAWS]) -> [u8; DRAWS] {
+fn next_draws(p: CutterPlay, fixed: bool, word: [u8; MOST_DRAWS]) -> [u8; MOST_DRAWS] {
     if console_turns::cutter_draws(p) == 0 {
         return word;
     }
     drawn(fixed, word)
 }
 
-pub fn play_cutter(fixed: bool, word: [u8; DRAWS]) {
+pub fn play_cutter(fixed: bool, word: [u8; MOST_DRAWS]) {
     let terminal = on_terminal();
     let start = cutter_begin(drawn(fixed, word));
     let mut c = Cutting {

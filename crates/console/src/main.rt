@@ -7,11 +7,11 @@ mod live;
 mod scripted;
 
 use console_screens::same;
-use console_turns::DRAWS;
+use console_turns::MOST_DRAWS;
 use libc::STDERR_FILENO;
 
 // Room for a name, and for a word.
-const WORD: usize = DRAWS;
+const WORD: usize = MOST_DRAWS;
 
 fn main() {
     let mut word = [0u8; WORD];

@@ -1,5 +1,5 @@
 // A script of bytes, one to a turn, with a clock of its own.
-use console_turns::DRAWS;
+use console_turns::MOST_DRAWS;
 use libc::STDIN_FILENO;
 use std::num::wrapping_add_u32;
 ghost use Prim.Native.Nat.{_≤_};
@@ -39,7 +39,7 @@ fn play_mine(bytes: &[u8]) -> usize
 }
 
 // Plays Block Cutter.
-fn play_cutter(bytes: &[u8], draws: [u8; DRAWS]) {
+fn play_cutter(bytes: &[u8], draws: [u8; MOST_DRAWS]) {
     let mut time: u32 = 0;
     let n = console_screens::within(console_turns::ROUND, &draws);
     let mut p = console_turns::cutter_start(&draws[..n], time);
@@ -60,7 +60,7 @@ fn play_cutter(bytes: &[u8], draws: [u8; DRAWS]) {
     }
 }
 
-pub fn play_script(word: [u8; DRAWS]) {
+pub fn play_script(word: [u8; MOST_DRAWS]) {
     let mut draws = word;
     console_turns::to_draws(&mut draws);
     let mut input = io::large_buffer();

@@ -4,25 +4,11 @@ use mathlib.Core.List.{List, [], _∷_}
 use Prim.Native.Char.{code}
 use Prim.Native.Nat.{ℕ}
 use lib.Dec.{eqb, ltb}
+use Rattle.controls.specs.Keys.{KEY-UP, KEY-LEFT, KEY-DOWN, KEY-RIGHT, KEY-QUIT}
 
--- the keys of a pass (document 01): 5, 8, 7, 9 move, 10 quits; 11 is ours, for another round, and 0 is no key: a pass ignores both
+-- beside the keys of a pass: 11 is ours, for another round, and 0 is no key: a pass ignores both
 abbrev pub NO-KEY : ℕ
 NO-KEY = 0
-
-abbrev pub UP : ℕ
-UP = 5
-
-abbrev pub LEFT : ℕ
-LEFT = 7
-
-abbrev pub DOWN : ℕ
-DOWN = 8
-
-abbrev pub RIGHT : ℕ
-RIGHT = 9
-
-abbrev pub QUIT : ℕ
-QUIT = 10
 
 abbrev pub NEW : ℕ
 NEW = 11
@@ -34,11 +20,11 @@ keyIn ((byte, key) ∷ table) b = cond (eqb b byte) key (keyIn table b)
 
 -- a digit moves, q and x quit, n plays another round; 4 is what a terminal sends for the end of input
 abbrev pub PLAIN-KEYS : List (ℕ × ℕ)
-PLAIN-KEYS = (code "5", UP) ∷ (code "7", LEFT) ∷ (code "8", DOWN) ∷ (code "9", RIGHT) ∷ (code "q", QUIT) ∷ (code "x", QUIT) ∷ (4, QUIT) ∷ (code "n", NEW) ∷ []
+PLAIN-KEYS = (code "5", KEY-UP) ∷ (code "7", KEY-LEFT) ∷ (code "8", KEY-DOWN) ∷ (code "9", KEY-RIGHT) ∷ (code "q", KEY-QUIT) ∷ (code "x", KEY-QUIT) ∷ (4, KEY-QUIT) ∷ (code "n", NEW) ∷ []
 
 -- an arrow's sequence ends with A, B, C or D: up, down, right, left
 abbrev pub ARROWS : List (ℕ × ℕ)
-ARROWS = (code "A", UP) ∷ (code "B", DOWN) ∷ (code "C", RIGHT) ∷ (code "D", LEFT) ∷ []
+ARROWS = (code "A", KEY-UP) ∷ (code "B", KEY-DOWN) ∷ (code "C", KEY-RIGHT) ∷ (code "D", KEY-LEFT) ∷ []
 
 -- what the bytes before left open: nothing, an escape, or a sequence behind one
 abbrev pub PLAIN : ℕ

@@ -1,19 +1,14 @@
 // Bytes from a terminal as the keys of a pass.
+use controls::KEY_DOWN;
+use controls::KEY_LEFT;
+use controls::KEY_QUIT;
+use controls::KEY_RIGHT;
+use controls::KEY_UP;
 ghost use mathlib.Core.Path.{_≡_};
 ghost use Rattle.console_keys.specs.Keys.{PLAIN-KEYS, ARROWS, keyIn, heardKey, waitsAfter, keysOf, waitsOf};
 
-// The keys of a pass; 11 is ours, for another round, and 0 is no key: a pass ignores both.
+// Beside the keys of a pass: 11 is ours, for another round, and 0 is no key: a pass ignores both.
 pub const NO_KEY: u8 = 0;
-
-pub const KEY_UP: u8 = 5;
-
-pub const KEY_LEFT: u8 = 7;
-
-pub const KEY_DOWN: u8 = 8;
-
-pub const KEY_RIGHT: u8 = 9;
-
-pub const KEY_QUIT: u8 = 10;
 
 pub const KEY_NEW: u8 = 11;
 

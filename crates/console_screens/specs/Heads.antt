@@ -7,7 +7,7 @@ use lib.Dec.{eqb}
 use lib.ListN.{length}
 use Rattle.answer.specs.Answer.{GOING-ON, WON, DEAD, OVER, QUIT}
 use Rattle.text.specs.Text.{DIGITS, bytesOf, decimal}
-use Rattle.text.specs.Puts.{Puts}
+use Rattle.text.specs.CodePuts.{Puts}
 
 -- a head line's room
 abbrev pub HEAD : ℕ

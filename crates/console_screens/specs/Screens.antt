@@ -3,7 +3,7 @@ use mathlib.Core.List.{List}
 use mathlib.Core.Path.{_≡_}
 use Prim.Native.Nat.{ℕ}
 use lib.ListN.{replicate}
-use Rattle.text.specs.Puts.{Puts}
+use Rattle.text.specs.CodePuts.{Puts}
 use Rattle.console_screens.specs.Heads.{HEAD, mineHead, cutterHead}
 use Rattle.frame.specs.Frame.{FRAME-LEN}
 use Rattle.mine.specs.Picture as Mine

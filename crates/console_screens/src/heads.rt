@@ -4,7 +4,7 @@ use text::put_number;
 ghost use mathlib.Core.Path.{_≡_};
 ghost use Prim.Native.Nat.{_+_, _≤_};
 ghost use lib.ListN.{length};
-ghost use Rattle.text.specs.Puts.{Puts};
+ghost use Rattle.text.specs.CodePuts.{Puts};
 ghost use Rattle.text.specs.Text.{DIGITS};
 ghost use Rattle.console_screens.specs.Heads.{HEAD, STATE, stateBytes, FieldPut, mineHead, cutterHead};
 

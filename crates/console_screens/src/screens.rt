@@ -1,8 +1,8 @@
 // What is shown: a head line above the frame.
+use crate::heads::HEAD;
 use console_turns::CutterPlay;
 use console_turns::MinePlay;
 use frame::FRAME_LEN;
-use crate::heads::HEAD;
 use libc::STDOUT_FILENO;
 ghost use Rattle.io.specs.Counts.{Counts};
 ghost use Rattle.console_screens.specs.Screens.{MineShown, CutterShown};

@@ -1,7 +1,7 @@
 -- The turns of the loop that makes draws of bytes in place. Assumes nothing.
 use lib.Dec.{eqb}
 use Rattle.laws.proofs.Choice.{cond-both}
-use Rattle.cutter_rules.specs.Level.{DRAWS}
+use Rattle.cutter_rules.specs.Level.{DRAWS-EACH}
 use mathlib.Core.List.{List, [], _∷_, _++_, append-nil}
 use mathlib.Core.Path.{_≡_, sym, _∙_}
 use Prim.Native.Nat.{ℕ, suc, _+_, _%_, _<_}
@@ -15,7 +15,7 @@ use Rattle.console_turns.specs.Turns.{limitAt, drawsFrom}
 pub limit-positive : (place : ℕ) → 0 < limitAt place
 unfolding limitAt
 limit-positive place =
-    cond-both (λ (n : ℕ). 0 < n) (eqb (place % DRAWS) 0) _ _ (λ _. omega arith) (λ _. cond-both (λ (n : ℕ). 0 < n) (eqb (place % DRAWS) 1) _ _ (λ _. omega arith) (λ _. omega arith))
+    cond-both (λ (n : ℕ). 0 < n) (eqb (place % DRAWS-EACH) 0) _ _ (λ _. omega arith) (λ _. cond-both (λ (n : ℕ). 0 < n) (eqb (place % DRAWS-EACH) 1) _ _ (λ _. omega arith) (λ _. omega arith))
 
 pub draws-more : (l : List ℕ) (i : ℕ) {R : List ℕ} → i < length l → take i l ++ drawsFrom i (drop i l) ≡ R
     → take (i + 1) (set l i (getD l i 0 % limitAt i)) ++ drawsFrom (i + 1) (drop (i + 1) (set l i (getD l i 0 % limitAt i))) ≡ R

@@ -11,7 +11,7 @@ use lib.ListN.{length, getD, take}
 use lib.Seq.{getD-take, length-take-le}
 use Rattle.laws.proofs.Below.{all-below}
 use Rattle.laws.proofs.Choice.{and-both}
-use Rattle.cutter_rules.specs.Level.{DRAWS, drawAt, inRange, drawsOk}
+use Rattle.cutter_rules.specs.Level.{DRAWS-EACH, drawAt, inRange, drawsOk}
 use Rattle.console_turns.specs.Turns.{limitAt, drawsFrom, DrawsFit}
 use Rattle.console_turns.proofs.Drawn.{limit-positive}
 
@@ -29,31 +29,31 @@ drawn-below place (b ∷ bytes) (suc j) = let e : place + suc j ≡ place + 1 + 
 
 module _ (i : ℕ) where
   -- the limits of a creature's four draws
-  first : limitAt (DRAWS * i + 0) ≡ 62
+  first : limitAt (DRAWS-EACH * i + 0) ≡ 62
   unfolding limitAt
-  first = let e : (DRAWS * i + 0) % DRAWS ≡ 0 = omega arith in rw e
+  first = let e : (DRAWS-EACH * i + 0) % DRAWS-EACH ≡ 0 = omega arith in rw e
 
-  second : limitAt (DRAWS * i + 1) ≡ 30
+  second : limitAt (DRAWS-EACH * i + 1) ≡ 30
   unfolding limitAt
-  second = let e : (DRAWS * i + 1) % DRAWS ≡ 1 = omega arith in rw e
+  second = let e : (DRAWS-EACH * i + 1) % DRAWS-EACH ≡ 1 = omega arith in rw e
 
-  third : limitAt (DRAWS * i + 2) ≡ 2
+  third : limitAt (DRAWS-EACH * i + 2) ≡ 2
   unfolding limitAt
-  third = let e : (DRAWS * i + 2) % DRAWS ≡ 2 = omega arith in rw e
+  third = let e : (DRAWS-EACH * i + 2) % DRAWS-EACH ≡ 2 = omega arith in rw e
 
-  fourth : limitAt (DRAWS * i + 3) ≡ 2
+  fourth : limitAt (DRAWS-EACH * i + 3) ≡ 2
   unfolding limitAt
-  fourth = let e : (DRAWS * i + 3) % DRAWS ≡ 3 = omega arith in rw e
+  fourth = let e : (DRAWS-EACH * i + 3) % DRAWS-EACH ≡ 3 = omega arith in rw e
 
 module _ (n : ℕ) (bytes : List ℕ) where
   abbrev draws : List ℕ
-  draws = take (DRAWS * n) (drawsFrom 0 bytes)
+  draws = take (DRAWS-EACH * n) (drawsFrom 0 bytes)
 
   -- the draw k of the creature i
-  draw-below : (i k m : ℕ) → i < n → k < DRAWS → limitAt (DRAWS * i + k) ≡ m → drawAt draws i k < m
+  draw-below : (i k m : ℕ) → i < n → k < DRAWS-EACH → limitAt (DRAWS-EACH * i + k) ≡ m → drawAt draws i k < m
   draw-below i k m h l e =
-      let z : 0 + (DRAWS * i + k) ≡ DRAWS * i + k = omega arith in
-      rw (getD-take (DRAWS * n) (drawsFrom 0 bytes) (DRAWS * i + k) 0 (omega arith)) (subst (λ (z : ℕ). getD (drawsFrom 0 bytes) (DRAWS * i + k) 0 < z) e (rw z at (drawn-below 0 bytes (DRAWS * i + k))))
+      let z : 0 + (DRAWS-EACH * i + k) ≡ DRAWS-EACH * i + k = omega arith in
+      rw (getD-take (DRAWS-EACH * n) (drawsFrom 0 bytes) (DRAWS-EACH * i + k) 0 (omega arith)) (subst (λ (z : ℕ). getD (drawsFrom 0 bytes) (DRAWS-EACH * i + k) 0 < z) e (rw z at (drawn-below 0 bytes (DRAWS-EACH * i + k))))
 
   in-range : (i : ℕ) → i < n → inRange draws i ≡ true
   unfolding inRange
@@ -63,4 +63,4 @@ module _ (n : ℕ) (bytes : List ℕ) where
 pub draws-fit : DrawsFit
 unfolding drawsOk
 draws-fit n bytes h =
-    and-both (eqb (length (draws n bytes)) (DRAWS * n)) _ (eq-eqb _ _ (length-take-le (DRAWS * n) (drawsFrom 0 bytes) (omega (arith, length-draws 0 bytes)))) (all-below n (inRange (draws n bytes)) (in-range n bytes))
+    and-both (eqb (length (draws n bytes)) (DRAWS-EACH * n)) _ (eq-eqb _ _ (length-take-le (DRAWS-EACH * n) (drawsFrom 0 bytes) (omega (arith, length-draws 0 bytes)))) (all-below n (inRange (draws n bytes)) (in-range n bytes))

@@ -10,19 +10,19 @@ use Rattle.refusal.specs.Refusal.{NONE}
 use Rattle.answer.specs.declared.Answer.{Answer}
 use Rattle.answer.specs.Answer.{GOING-ON, QUIT, numberOf}
 use Rattle.console_keys.specs.Keys.{NEW}
-use Rattle.console_keys.specs.Keys as Keys
 use Rattle.mine_rules.specs.Load.{loaded}
 use Rattle.mine_pass.specs.declared.MineTurn.{MineTurn}
 use Rattle.mine_pass.specs.Pass as Mine
 use Rattle.cutter_ground.specs.Cells.{CW, CH}
 use Rattle.cutter_state.specs.declared.Cutter.{Cutter}
-use Rattle.cutter_rules.specs.Level.{DRAWS, creaturesOf, drawsOk}
+use Rattle.cutter_rules.specs.Level.{DRAWS-EACH, creaturesOf, drawsOk}
 use Rattle.cutter_pass.specs.declared.CutterTurn.{CutterTurn}
 use Rattle.cutter_pass.specs.Pass as Cutter
 use Rattle.cutter.specs.declared.calls.CutterAnswer.{CutterAnswer}
 use Rattle.cutter.specs.Calls.{roundCall}
 use Rattle.console_turns.specs.declared.mining.MinePlay.{MinePlay}
 use Rattle.console_turns.specs.declared.cut.CutterPlay.{CutterPlay}
+use Rattle.controls.specs.Keys.{KEY-QUIT}
 
 -- how a round stands: the number of the pass's answer, and 5 where it was refused
 abbrev pub REFUSED : ℕ
@@ -48,14 +48,14 @@ mineAfter t = record { game = t .passed .game; first = t .first; second = t .sec
 unfoldable pub mineTurn : MinePlay → List ℕ → ℕ → MinePlay
 mineTurn p keys time =
     cond (eqb (p .stands) GOING-ON) (mineAfter (Mine.passAt (p .game) keys time (p .first) (p .second)))
-    (cond (pressedIn keys Keys.QUIT) (record { game = p .game; first = p .first; second = p .second; stands = QUIT })
+    (cond (pressedIn keys KEY-QUIT) (record { game = p .game; first = p .first; second = p .second; stands = QUIT })
     (cond (pressedIn keys NEW) (mineStarted time) p))
 
 -- ---- Block Cutter: its draws
 
 -- a draw is below 62, 30, 2 or 2, by its place
 unfoldable pub limitAt : ℕ → ℕ
-limitAt place = cond (eqb (place % DRAWS) 0) (CW - 2) (cond (eqb (place % DRAWS) 1) (CH - 2) 2)
+limitAt place = cond (eqb (place % DRAWS-EACH) 0) (CW - 2) (cond (eqb (place % DRAWS-EACH) 1) (CH - 2) 2)
 
 -- random bytes from a place on as draws: each byte's rest by its limit
 unfoldable pub drawsFrom : ℕ → List ℕ → List ℕ
@@ -66,12 +66,12 @@ drawsFrom place (b ∷ bs) = b % limitAt place ∷ drawsFrom (place + 1) bs
 unfoldable pub drawsDue : CutterPlay → ℕ
 drawsDue p =
     cond (eqb (p .stands) GOING-ON)
-    (cond (Cutter.levelDue (p .game)) (DRAWS * creaturesOf (p .game .level + 1)) 0)
-    (DRAWS * creaturesOf 1)
+    (cond (Cutter.levelDue (p .game)) (DRAWS-EACH * creaturesOf (p .game .level + 1)) 0)
+    (DRAWS-EACH * creaturesOf 1)
 
 -- no call is refused for such draws: those of n creatures are as many as they should be, and each is in range
 abbrev pub DrawsFit : Type 0
-DrawsFit = (n : ℕ) (bytes : List ℕ) → DRAWS * n ≤ length bytes → drawsOk (take (DRAWS * n) (drawsFrom 0 bytes)) n ≡ true
+DrawsFit = (n : ℕ) (bytes : List ℕ) → DRAWS-EACH * n ≤ length bytes → drawsOk (take (DRAWS-EACH * n) (drawsFrom 0 bytes)) n ≡ true
 
 -- ---- Block Cutter
 
@@ -87,5 +87,5 @@ cutterAfter t = record { game = t .passed .game; first = t .first; second = t .s
 unfoldable pub cutterTurn : CutterPlay → List ℕ → List ℕ → ℕ → CutterPlay
 cutterTurn p keys draws time =
     cond (eqb (p .stands) GOING-ON) (cutterAfter (Cutter.passAt (p .game) keys draws time (p .first) (p .second)))
-    (cond (pressedIn keys Keys.QUIT) (record { game = p .game; first = p .first; second = p .second; stands = QUIT })
+    (cond (pressedIn keys KEY-QUIT) (record { game = p .game; first = p .first; second = p .second; stands = QUIT })
     (cond (pressedIn keys NEW) (cutterStarted draws time) p))

@@ -2,11 +2,11 @@
 use crate::GOING_ON;
 use crate::QUIT;
 use crate::REFUSED;
-use crate::draws::DRAWS;
+use crate::draws::MOST_DRAWS;
 use crate::pressed;
 use crate::stands;
 use console_keys::KEY_NEW;
-use console_keys::KEY_QUIT;
+use controls::KEY_QUIT;
 use cutter_state::Cutter;
 ghost use mathlib.Core.Path.{_≡_};
 ghost use Prim.Native.Nat.{_+_, _*_};
@@ -31,10 +31,10 @@ const CROWDED: u32 = 15;
 
 // The draws of the level after this one.
 fn next_draws(level: u32) -> usize
-    ensures { λ r. ⌜ r ≡ Level.DRAWS * creaturesOf (level + 1) ⌝ }
+    ensures { λ r. ⌜ r ≡ Level.DRAWS-EACH * creaturesOf (level + 1) ⌝ }
 {
     if CROWDED <= level {
-        return DRAWS;
+        return MOST_DRAWS;
     }
     ROUND * (level as usize + 1)
 }

@@ -3,7 +3,7 @@ ghost use mathlib.Core.Path.{_≡_};
 ghost use Rattle.console_turns.specs.Turns.{limitAt, drawsFrom};
 
 // The most draws of a call: four for each of 16 creatures.
-pub const DRAWS: usize = 64;
+pub const MOST_DRAWS: usize = 64;
 
 // The columns and rows inside the ring, and the ways of a velocity's part.
 const COLUMNS: u8 = 62;

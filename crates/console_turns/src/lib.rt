@@ -9,7 +9,7 @@ pub use cut::ROUND;
 pub use cut::cutter_draws;
 pub use cut::cutter_start;
 pub use cut::cutter_turn;
-pub use draws::DRAWS;
+pub use draws::MOST_DRAWS;
 pub use draws::to_draws;
 pub use mining::MinePlay;
 pub use mining::mine_start;

@@ -4,7 +4,7 @@ use crate::QUIT;
 use crate::pressed;
 use crate::stands;
 use console_keys::KEY_NEW;
-use console_keys::KEY_QUIT;
+use controls::KEY_QUIT;
 use mine_state::Mine;
 ghost use mathlib.Core.Path.{_≡_};
 ghost use Rattle.mine_pass.specs.Pass.{passAt};

@@ -6,18 +6,19 @@ use lib.Dec.{leb}
 use lib.IntN.{pos}
 use lib.ListN.{replicate}
 use Rattle.refusal.specs.Refusal.{NONE, COMMAND, DRAWS, unless, _then_, refusedOr}
-use Rattle.cutter_ground.specs.Cells.{CN, CB-BLACK}
-use Rattle.cutter_closing.specs.Closing.{slots}
+use Rattle.cutter_ground.specs.Cells.{CN, CB-BLACK, INNER}
 use Rattle.cutter_state.specs.declared.Cutter.{Cutter}
 use Rattle.cutter_state.specs.Change.{withLevel, withLives}
 use Rattle.cutter_state.specs.WellFormed.{MAX-LIVES, refusalOf}
 use Rattle.cutter_rules.specs.Level.{creaturesOf, drawsOk, freshLevel}
-use Rattle.cutter_rules.specs.Step.{LEFT, directed, stepped, respawned}
+use Rattle.cutter_rules.specs.Step.{directed, stepped, respawned}
 use Rattle.cutter_rules.specs.Tick.{enemiesStepped}
 use Rattle.cutter_keeps.specs.Sweeps.{sweptStep}
-use Rattle.cutter_keeps.specs.Kept.{INNER, blackIn, claimedIn, lineIn}
 use Rattle.cutter.specs.declared.calls.CutterAnswer.{CutterAnswer}
 use Rattle.cutter.specs.declared.calls.Ground.{Ground}
+use Rattle.cutter_state.specs.State.{blackIn, claimedIn, lineIn}
+use Rattle.cutter_ground.specs.Movers.{slots}
+use Rattle.controls.specs.Keys.{LEFT}
 
 -- a refused call returns the number and the state it got
 abbrev pub refused : Cutter → ℕ → CutterAnswer

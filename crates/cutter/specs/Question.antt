@@ -3,8 +3,8 @@ use mathlib.Core.List.{List}
 use Prim.Native.Nat.{ℕ}
 use Rattle.found.specs.First.{first}
 use Rattle.found.specs.declared.Found.{Found}
-use Rattle.cutter_ground.specs.Cells.{standsAt}
 use Rattle.cutter_ground.specs.declared.Mover.{Mover}
+use Rattle.cutter_ground.specs.Movers.{standsAt}
 
 abbrev pub whoAt : List Mover → ℕ → ℕ → Found
 whoAt list x y = first (standsAt x y) list

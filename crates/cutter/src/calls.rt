@@ -1,23 +1,23 @@
 // The calls on a state: each checks it once, and refuses it or plays.
+use controls::LEFT;
 use cutter_check::check;
 use cutter_ground::CB_FILLED;
 use cutter_ground::CB_TRAIL;
 use cutter_ground::CN;
+use cutter_ground::INNER;
 use cutter_ground::MAX_ENEMIES;
 use cutter_ground::Mover;
 use cutter_ground::black_count;
 use cutter_ground::count_of;
 use cutter_level::creatures_of;
 use cutter_level::draws_ok;
-use cutter_pass::INTERIOR;
-use cutter_rules::LEFT;
 use cutter_state::Cutter;
 use cutter_state::MAX_LIVES;
 use refusal::Refusal;
 ghost use mathlib.Core.Path.{_≡_};
 ghost use Prim.Native.Nat.{_≤_};
-ghost use Rattle.cutter_keeps.specs.Kept.{INNER};
 ghost use Rattle.cutter.specs.Calls.{zeros, roundCall, levelCall, directionCall, stepCall, sweepsCall, enemiesCall, respawnCall, shareOf, reportCall};
+ghost use Rattle.cutter_ground.specs.Cells.{INNER};
 
 #[repr(C)]
 pub struct CutterAnswer {
@@ -200,7 +200,7 @@ fn share_of(black: u16) -> u16
     requires { ⌜ black ≤ INNER ⌝ }
     ensures { λ r. ⌜ r ≡ shareOf black ⌝ }
 {
-    ((INTERIOR - black as usize) * 100 / INTERIOR) as u16
+    ((INNER - black as usize) * 100 / INNER) as u16
 }
 
 // The ground report.

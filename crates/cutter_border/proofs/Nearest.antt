@@ -16,11 +16,11 @@ use Rattle.laws.proofs.Choice.{bool-cases, below?, or-cases}
 use Rattle.laws.proofs.Counts.{tally-le, tally-lose}
 use Rattle.laws.proofs.Lists.{getD-replicate-same}
 use Rattle.cutter_ground.specs.Cells.{CN, leftOf, rightOf, upOf, downOf, onBorder}
-use Rattle.cutter_ground.specs.Visit.{SEEN}
+use Rattle.cutter_ground.specs.CodeVisit.{SEEN}
 use Rattle.cutter_border.specs.declared.Walked.{Walked}
-use Rattle.cutter_border.specs.Walks.{claimed, Beside, Way, Left, Right, Up, Down, order, onward, Spelling, still, more, steps, Walk, here, step}
+use Rattle.cutter_border.specs.Walks.{claimedCell, Beside, Way, Left, Right, Up, Down, order, onward, Spelling, still, more, steps, Walk, here, step}
 use Rattle.cutter_border.specs.Nearest.{Unreached, Nearest, goes, stays}
-use Rattle.cutter_border.specs.Border.{among, reach, reachAround, walk, toBorder}
+use Rattle.cutter_border.specs.CodeBorder.{among, reach, reachAround, walk, toBorder}
 use Rattle.cutter_border.proofs.Spellings.{each, value, shorter-less, earlier-less, nearest-unique, nearest-here}
 use Rattle.cutter_border.proofs.Reaching.{claimed-in, marked, marked-none, none-marked, mark-more, reach-new, reach-old, reach-off}
 use Rattle.cutter_border.proofs.Walking as walking
@@ -114,7 +114,7 @@ module _ (g : List ℕ) (a : ℕ) where
 
   -- the cell x is looked at, by a walk of the value v: it is there, if it is claimed
   abbrev Looked : (cells vs : List ℕ) (x v : ℕ) (cells′ : List ℕ) → Type 0
-  Looked cells vs x v cells′ = Grown cells vs v cells′ (λ vs′. claimed g x ≡ true → Has cells′ vs′ x v)
+  Looked cells vs x v cells′ = Grown cells vs v cells′ (λ vs′. claimedCell g x ≡ true → Has cells′ vs′ x v)
 
   module _ {cells vs seen : List ℕ} {top : ℕ} (r : Reach cells vs seen top) (x v : ℕ) (t : top < v) where
     abbrev n : ℕ
@@ -150,7 +150,7 @@ module _ (g : List ℕ) (a : ℕ) where
           marks = mark-more seen cells x (omega (arith, r .long)) (r .marks);
         }
 
-    added : Spelt x v → claimed g x ≡ true → among x cells ≡ false → Looked cells vs x v (cells ++ x ∷ [])
+    added : Spelt x v → claimedCell g x ≡ true → among x cells ≡ false → Looked cells vs x v (cells ++ x ∷ [])
     added w c f =
         record {
           vs′ = vs ++ v ∷ [];
@@ -160,7 +160,7 @@ module _ (g : List ℕ) (a : ℕ) where
           had = λ _. (n, omega (arith, one-more cells x), new-cell, omega (arith, new-value));
         }
 
-    kept : (claimed g x ≡ true → among x cells ≡ true) → Looked cells vs x v cells
+    kept : (claimedCell g x ≡ true → among x cells ≡ true) → Looked cells vs x v cells
     kept f =
         record {
           vs′ = vs;
@@ -170,18 +170,18 @@ module _ (g : List ℕ) (a : ℕ) where
           had = λ c. let m = place-of x cells (f c) in (m .0, m .1, m .2, omega (arith, r .under (m .0) (m .1)));
         }
 
-    looked : (claimed g x ≡ true → Spelt x v) → Looked cells vs x v (reach g cells x)
+    looked : (claimedCell g x ≡ true → Spelt x v) → Looked cells vs x v (reach g cells x)
     looked w =
         ⊎-elim
         (λ c. ⊎-elim (λ f. subst (Looked cells vs x v) (sym (reach-old g cells x f)) (kept (λ _. f)))
         (λ f. subst (Looked cells vs x v) (sym (reach-new g cells x c f)) (added (w c) c f))
         (bool-cases (among x cells)))
         (λ c. subst (Looked cells vs x v) (sym (reach-off g cells x c)) (kept (λ d. absurd (true≢false (sym d ∙ c)))))
-        (bool-cases (claimed g x))
+        (bool-cases (claimedCell g x))
 
   -- the claimed neighbours of the cell b are there, by a walk to b of the value z and a step more
   abbrev Round : (cells vs : List ℕ) (b z : ℕ) → Type 0
-  Round cells vs b z = (w : Way) → claimed g (onward w b) ≡ true → Has cells vs (onward w b) (4 * z + order w)
+  Round cells vs b z = (w : Way) → claimedCell g (onward w b) ≡ true → Has cells vs (onward w b) (4 * z + order w)
 
   abbrev Turned : (cells vs : List ℕ) (b z : ℕ) (cells′ : List ℕ) → Type 0
   Turned cells vs b z cells′ = Grown cells vs (4 * z + 4) cells′ (λ vs′. Round cells′ vs′ b z)
@@ -189,7 +189,7 @@ module _ (g : List ℕ) (a : ℕ) where
   turned : {cells vs seen : List ℕ} {b z : ℕ} → Reach cells vs seen (4 * z) → Spelt b z → Turned cells vs b z (reachAround g cells b)
   unfolding reachAround
   turned {cells} {vs} {seen} {b} {z} r s =
-      let onto : (w : Way) → claimed g (onward w b) ≡ true → Spelt (onward w b) (4 * z + order w) = λ w c. (more (s .0) w, step w (s .1) c, omega (arith, s .2)) in
+      let onto : (w : Way) → claimedCell g (onward w b) ≡ true → Spelt (onward w b) (4 * z + order w) = λ w c. (more (s .0) w, step w (s .1) c, omega (arith, s .2)) in
       let one = looked r (leftOf b) (4 * z + 1) (omega arith) (onto Left) in
       let two = looked (one .reached) (rightOf b) (4 * z + 2) (omega arith) (onto Right) in
       let three = looked (two .reached) (upOf b) (4 * z + 3) (omega arith) (onto Up) in
@@ -202,7 +202,7 @@ module _ (g : List ℕ) (a : ℕ) where
         seen′ = four .seen′;
         reached = four .reached;
         longer = longer-trans (one .longer) l₁;
-        had = each (λ (w : Way). claimed g (onward w b) ≡ true → Has (reachAround g cells b) (four .vs′) (onward w b) (4 * z + order w))
+        had = each (λ (w : Way). claimedCell g (onward w b) ≡ true → Has (reachAround g cells b) (four .vs′) (onward w b) (4 * z + order w))
             (λ c. has-longer l₁ _ _ (one .had c)) (λ c. has-longer l₂ _ _ (two .had c)) (λ c. has-longer l₃ _ _ (three .had c)) (four .had);
       }
 
@@ -229,7 +229,7 @@ module _ (g : List ℕ) (a : ℕ) where
     followed (step {p = p} {b = b} w r k) =
         ⊎-elim
         (λ (h : Has cells (t .vs) b (value p)). ⊎-elim
-        (λ l. let d = t .done (h .0) l w (subst (λ (c : ℕ). claimed g (onward w c) ≡ true) (sym (h .2)) k) in
+        (λ l. let d = t .done (h .0) l w (subst (λ (c : ℕ). claimedCell g (onward w c) ≡ true) (sym (h .2)) k) in
         inl (d .0, d .1, d .2 ∙ ap (onward w) (h .2), omega (arith, d .3, h .3)))
         (λ l. inr (h .0, l, h .1, omega (arith, h .3)))
         (below? (h .0) i))

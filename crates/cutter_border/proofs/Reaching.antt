@@ -13,41 +13,41 @@ use borrow.Author.Tests.{not-false, ltb-true, lt-ltb, eqb-true, eq-eqb, ne-eqb}
 use Rattle.laws.proofs.Choice.{and-left, and-right, and-both, bool-cases, same?}
 use Rattle.laws.proofs.Lists.{getD-default, any-append}
 use Rattle.cutter_ground.specs.Cells.{CN, CB-FILLED, cellAt, rightOf, upOf, downOf}
-use Rattle.cutter_ground.specs.Visit.{SEEN, Holds, Room, Visited, Around}
+use Rattle.cutter_ground.specs.CodeVisit.{SEEN, Holds, Room, Visited, Around}
 use Rattle.cutter_ground.proofs.Visits.{holds-in, room-kept}
-use Rattle.cutter_border.specs.Walks.{claimed}
-use Rattle.cutter_border.specs.Border.{among, reach, reachAround}
+use Rattle.cutter_border.specs.Walks.{claimedCell}
+use Rattle.cutter_border.specs.CodeBorder.{among, reach, reachAround}
 
 -- what a claimed cell is
 module _ (g : List ℕ) (c : ℕ) where
-  pub claimed-in : claimed g c ≡ true → c < CN
-  unfolding claimed
+  pub claimed-in : claimedCell g c ≡ true → c < CN
+  unfolding claimedCell
   claimed-in e = ltb-true c CN (and-left (ltb c CN) _ e)
 
-  pub claimed-code : claimed g c ≡ true → cellAt g c ≡ CB-FILLED
-  unfolding claimed
+  pub claimed-code : claimedCell g c ≡ true → cellAt g c ≡ CB-FILLED
+  unfolding claimedCell
   claimed-code e = eqb-true (cellAt g c) CB-FILLED (and-right (ltb c CN) _ e)
 
-  pub code-claimed : c < CN → cellAt g c ≡ CB-FILLED → claimed g c ≡ true
-  unfolding claimed
+  pub code-claimed : c < CN → cellAt g c ≡ CB-FILLED → claimedCell g c ≡ true
+  unfolding claimedCell
   code-claimed h e = and-both (ltb c CN) (eqb (cellAt g c) CB-FILLED) (lt-ltb c CN h) (eq-eqb (cellAt g c) CB-FILLED e)
 
   -- a visit's test says the same
-  holds-claimed : length g ≡ CN → Holds g CB-FILLED c → claimed g c ≡ true
+  holds-claimed : length g ≡ CN → Holds g CB-FILLED c → claimedCell g c ≡ true
   holds-claimed l h =
       let i = holds-in g CB-FILLED c (omega arith) h in
       code-claimed (omega arith) (getD-default g c CB-FILLED 3 i ∙ h)
 
-  claimed-holds : length g ≡ CN → claimed g c ≡ true → Holds g CB-FILLED c
+  claimed-holds : length g ≡ CN → claimedCell g c ≡ true → Holds g CB-FILLED c
   claimed-holds l e = getD-default g c 3 CB-FILLED (omega (arith, claimed-in e)) ∙ claimed-code e
 
 -- a cell is reached, or it is not claimed, or it was reached before
 module _ (g cells : List ℕ) (c : ℕ) where
-  pub reach-new : claimed g c ≡ true → among c cells ≡ false → reach g cells c ≡ cells ++ c ∷ []
+  pub reach-new : claimedCell g c ≡ true → among c cells ≡ false → reach g cells c ≡ cells ++ c ∷ []
   unfolding reach
   reach-new e f = simp (e, f)
 
-  pub reach-off : claimed g c ≡ false → reach g cells c ≡ cells
+  pub reach-off : claimedCell g c ≡ false → reach g cells c ≡ cells
   unfolding reach
   reach-off e = simp e
 
@@ -97,10 +97,10 @@ visit-reaches {g} {seen} {q} {t} {at} {seen′} {q′} {t′} r (inl p) =
     }
 visit-reaches {g} {seen} {q} {t} {at} {seen′} {q′} {t′} r (inr p) =
     let same : take t′ q′ ≡ take t q = ap₂ take (p .tail) (p .queue) in
-    let seen-at : claimed g at ≡ true → marked seen at ≡ true = λ e.
+    let seen-at : claimedCell g at ≡ true → marked seen at ≡ true = λ e.
     ⊎-elim (λ m. m) (λ (m : marked seen at ≡ false). absurd (p .why (claimed-holds g at (r .room .cells) e) (none-marked seen at m))) (bool-cases (marked seen at)) in
     record {
-      list = same ∙ sym (⊎-elim (λ e. reach-old g (take t q) at (r .marks at ∙ seen-at e)) (reach-off g (take t q) at) (bool-cases (claimed g at)));
+      list = same ∙ sym (⊎-elim (λ e. reach-old g (take t q) at (r .marks at ∙ seen-at e)) (reach-off g (take t q) at) (bool-cases (claimedCell g at)));
       reached = record { room = room-kept (r .room) (inr p); marks = λ c. ap (among c) same ∙ r .marks c ∙ sym (ap (λ (l : List ℕ). marked l c) (p .marks)) };
     }
 

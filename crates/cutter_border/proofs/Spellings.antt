@@ -6,7 +6,7 @@ use mathlib.Core.Path.{_≡_, refl, sym, ap, ap₂, subst, _∙_}
 use Prim.Native.Nat.{ℕ, zero, suc, _+_, _*_, _≤_, _<_}
 use native.Mathlib.Omega.{arith}
 use Rattle.laws.proofs.Choice.{below?}
-use Rattle.cutter_border.specs.Walks.{claimed, Beside, Way, Left, Right, Up, Down, order, onward, Spelling, still, more, steps, Earlier, differ, before, Walk, here, step}
+use Rattle.cutter_border.specs.Walks.{claimedCell, Beside, Way, Left, Right, Up, Down, order, onward, Spelling, still, more, steps, Earlier, differ, before, Walk, here, step}
 use Rattle.cutter_border.specs.Nearest.{First, Unreached, Nearest, goes, stays}
 
 -- what holds of the four steps holds of each
@@ -104,11 +104,11 @@ module _ {g : List ℕ} {a : ℕ} where
   pub nearest-unreached : {b : ℕ} → Unreached g a → Nearest g a b → b ≡ a
   nearest-unreached u n = nearest-unique n (stays u refl)
 
-  walk-claimed : claimed g a ≡ true → {p : Spelling} {b : ℕ} → Walk g a p b → claimed g b ≡ true
+  walk-claimed : claimedCell g a ≡ true → {p : Spelling} {b : ℕ} → Walk g a p b → claimedCell g b ≡ true
   walk-claimed s here = s
   walk-claimed s (step w r k) = k
 
   -- from a claimed cell it is claimed
-  pub nearest-claimed : claimed g a ≡ true → {b : ℕ} → Nearest g a b → claimed g b ≡ true
+  pub nearest-claimed : claimedCell g a ≡ true → {b : ℕ} → Nearest g a b → claimedCell g b ≡ true
   nearest-claimed s (goes p f) = walk-claimed s (f .walk)
-  nearest-claimed s (stays u e) = ap (claimed g) e ∙ s
+  nearest-claimed s (stays u e) = ap (claimedCell g) e ∙ s

@@ -7,7 +7,7 @@ use native.Mathlib.Omega.{arith}
 use lib.ListN.{length, getD}
 use Rattle.laws.proofs.Choice.{bool-cases, below?}
 use Rattle.cutter_ground.specs.Cells.{CN, onBorder}
-use Rattle.cutter_border.specs.Border.{reachAround, walk, toBorder}
+use Rattle.cutter_border.specs.CodeBorder.{reachAround, walk, toBorder}
 use Rattle.cutter_border.proofs.Walking.{ends, goes, none, stays, walks}
 
 module _ (g : List ℕ) where

@@ -13,9 +13,9 @@ use Rattle.laws.proofs.Counts.{tally-le, tally-lose}
 use Rattle.laws.proofs.Lists.{getD-default, getD-replicate-same, any-at}
 use Rattle.laws.proofs.Choice.{below?}
 use Rattle.cutter_ground.specs.Cells.{CN, CB-FILLED, onBorder}
-use Rattle.cutter_ground.specs.Visit.{SEEN, Around}
-use Rattle.cutter_border.specs.Border.{among, reachAround, walk, toBorder}
-use Rattle.cutter_border.specs.Tables.{Cleared}
+use Rattle.cutter_ground.specs.CodeVisit.{SEEN, Around}
+use Rattle.cutter_border.specs.CodeBorder.{among, reachAround, walk, toBorder}
+use Rattle.cutter_border.specs.CodeTables.{Cleared}
 use Rattle.cutter_border.proofs.Reaching.{marked, marked-none, Reached, mark-more, around-reaches}
 
 -- the walk at its i-th cell: it ends there, it goes on, or no cell is left

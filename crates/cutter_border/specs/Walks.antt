@@ -7,8 +7,8 @@ use lib.Dec.{eqb, ltb}
 use Rattle.cutter_ground.specs.Cells.{CN, CB-FILLED, cellAt, leftOf, rightOf, upOf, downOf, onBorder}
 
 -- a claimed cell of the grid
-unfoldable pub claimed : List ℕ → ℕ → Bool
-claimed g c = ltb c CN && eqb (cellAt g c) CB-FILLED
+unfoldable pub claimedCell : List ℕ → ℕ → Bool
+claimedCell g c = ltb c CN && eqb (cellAt g c) CB-FILLED
 
 -- a step
 pub data Way : Type 0 where
@@ -49,4 +49,4 @@ pub data Earlier : Spelling → Spelling → Type 0 where
 -- a walk from a over claimed cells, by its spelling and its end; the empty walk ends where it starts
 pub data Walk (g : List ℕ) (a : ℕ) : Spelling → ℕ → Type 0 where
   here : Walk g a still a
-  step : {p : Spelling} {b : ℕ} (w : Way) → Walk g a p b → claimed g (onward w b) ≡ true → Walk g a (more p w) (onward w b)
+  step : {p : Spelling} {b : ℕ} (w : Way) → Walk g a p b → claimedCell g (onward w b) ≡ true → Walk g a (more p w) (onward w b)

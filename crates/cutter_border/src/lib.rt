@@ -5,8 +5,8 @@ use cutter_ground::SEEN;
 ghost use mathlib.Core.Path.{_≡_};
 ghost use mathlib.Core.List.{[], _∷_};
 ghost use Rattle.cutter_ground.specs.Cells.{CN};
-ghost use Rattle.cutter_border.specs.Border.{walk, toBorder};
-ghost use Rattle.cutter_border.specs.Tables.{Cleared, Standing};
+ghost use Rattle.cutter_border.specs.CodeBorder.{walk, toBorder};
+ghost use Rattle.cutter_border.specs.CodeTables.{Cleared, Standing};
 
 // Where a walk ends, and how many cells it took, the last one included.
 pub struct Walked {

@@ -15,18 +15,19 @@ use Rattle.laws.proofs.Choice.{below?, same?, cond-both}
 use Rattle.laws.proofs.Lists.{drop-one, drop-end, getD-replicate-same}
 use Rattle.laws.proofs.Counts.{count-same, count-plus}
 use Rattle.laws.proofs.Filter.{count-not}
-use Rattle.cutter_ground.specs.Cells.{CN, cellOf}
-use Rattle.cutter_ground.specs.Visit.{SEEN}
+use Rattle.cutter_ground.specs.Cells.{CN}
+use Rattle.cutter_ground.specs.CodeVisit.{SEEN}
 use Rattle.cutter_ground.specs.declared.Mover.{Mover}
 use Rattle.cutter_joined.specs.Joined.{Black, Joined, here, Right}
 use Rattle.cutter_joined.proofs.Joined.{right-le, right-same, right-root, right-joined, right-black}
 use Rattle.cutter_closing.specs.Counted.{rootsFrom, counted, cellsIn}
-use Rattle.cutter_regions.specs.Seeking.{Ready, Queued, Sought}
+use Rattle.cutter_regions.specs.CodeSeeking.{Ready, Queued, Sought}
 use Rattle.cutter_closing.proofs.Roots.{roots-none, roots-root, roots-pass}
 use Rattle.cutter_closing.specs.Closing.{regionOf, creaturesIn, beats, best, keptOf, kept}
 use Rattle.cutter_capture.specs.declared.Lead.{Lead}
-use Rattle.cutter_capture.specs.Steps.{markOf, having, more, leader}
-use Rattle.cutter_capture.specs.Choosing.{ChosenBy}
+use Rattle.cutter_capture.specs.CodeSteps.{markOf, having, more, leader}
+use Rattle.cutter_capture.specs.CodeChoosing.{ChosenBy}
+use Rattle.cutter_ground.specs.Movers.{placeOf}
 
 -- ---- the number s passed, at a label x
 
@@ -266,8 +267,8 @@ module _ {g L : List ℕ} (R : Right g L) {limit : ℕ} {es : List Mover} {seen 
         pub found-crowd : having seen′ es SEEN ≡ stood + creaturesIn L es s
         found-crowd =
             count-plus (λ m. eqb (markOf seen′ m) SEEN) (λ m. eqb (markOf seen m) SEEN) (λ m. eqb (regionOf L m) s)
-            (λ m. ap (λ (x : ℕ). bit (eqb x SEEN)) (found-marks (cellOf m)) ∙ ap bit (bit-one (ltb (regionOf L m) (s + 1))) ∙ bit-step (regionOf L m) s
-            ∙ ap (λ (x : Bool). bit x + bit (eqb (regionOf L m) s)) (sym (ap (λ (x : ℕ). eqb x SEEN) (b .marks (cellOf m)) ∙ bit-one (ltb (regionOf L m) s))))
+            (λ m. ap (λ (x : ℕ). bit (eqb x SEEN)) (found-marks (placeOf m)) ∙ ap bit (bit-one (ltb (regionOf L m) (s + 1))) ∙ bit-step (regionOf L m) s
+            ∙ ap (λ (x : Bool). bit x + bit (eqb (regionOf L m) s)) (sym (ap (λ (x : ℕ). eqb x SEEN) (b .marks (placeOf m)) ∙ bit-one (ltb (regionOf L m) s))))
             es
             ∙ ap (λ (x : ℕ). x + creaturesIn L es s) (sym (b .crowd))
 
@@ -430,4 +431,4 @@ between-start {g} {L} R {limit} es {seen} {q} lg z lq p =
 
     nobody : (ms : List Mover) → having seen ms SEEN ≡ 0
     nobody [] = refl
-    nobody (m ∷ ms) = rw (blank (cellOf m)) (nobody ms)
+    nobody (m ∷ ms) = rw (blank (placeOf m)) (nobody ms)

@@ -8,7 +8,7 @@ use lib.Seq.{getD-set-other}
 use Rattle.laws.proofs.Lists.{fill-more, fill-end}
 use Rattle.laws.proofs.Zip.{length-zipWith, getD-zipWith}
 use Rattle.cutter_ground.specs.Cells.{CN}
-use Rattle.cutter_capture.specs.Steps.{shut}
+use Rattle.cutter_capture.specs.CodeSteps.{shut}
 
 -- the first i cells are done
 pub record Claiming (g N h : List ℕ) (i : ℕ) : Type 0 where

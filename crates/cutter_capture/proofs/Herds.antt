@@ -12,17 +12,17 @@ use Rattle.laws.specs.Lists.{filter}
 use Rattle.laws.proofs.Counts.{count-le}
 use Rattle.laws.proofs.Lists.{all-at}
 use Rattle.laws.proofs.Filter.{filter-hit, filter-miss, length-filter}
-use Rattle.cutter_ground.specs.Cells.{CN, MAX-ENEMIES, cellOf}
+use Rattle.cutter_ground.specs.Cells.{CN}
 use Rattle.cutter_ground.specs.declared.Mover.{Mover}
-use Rattle.cutter_closing.specs.Closing.{blank, slots}
-use Rattle.cutter_capture.specs.Steps.{Closable, inside, markOf}
+use Rattle.cutter_capture.specs.CodeSteps.{Closable, inside, markOf}
+use Rattle.cutter_ground.specs.Movers.{MAX-ENEMIES, placeOf, blankSlot, slots}
 
 -- one more creature takes the first free slot
 slots-more : (k : List Mover) (m : Mover) → length k < MAX-ENEMIES → set (slots k) (length k) m ≡ slots (k ++ m ∷ [])
 slots-more k m h =
     let l = length-append k (m ∷ []) in
     let e : MAX-ENEMIES - length k ≡ suc (MAX-ENEMIES - length (k ++ m ∷ [])) = omega arith in
-    ap (λ (n : ℕ). set (k ++ replicate n blank) (length k) m) e ∙ set-append-seam k blank (replicate (MAX-ENEMIES - length (k ++ m ∷ [])) blank) m ∙ sym (append-snoc k m (replicate (MAX-ENEMIES - length (k ++ m ∷ [])) blank))
+    ap (λ (n : ℕ). set (k ++ replicate n blankSlot) (length k) m) e ∙ set-append-seam k blankSlot (replicate (MAX-ENEMIES - length (k ++ m ∷ [])) blankSlot) m ∙ sym (append-snoc k m (replicate (MAX-ENEMIES - length (k ++ m ∷ [])) blankSlot))
 
 -- those of the first i creatures that have the mark w
 abbrev those : List ℕ → ℕ → List Mover → List Mover
@@ -32,7 +32,7 @@ pub record Keeping (N : List ℕ) (w : ℕ) (cs out : List Mover) (n i : ℕ) : 
   pub outs : out ≡ slots (filter (λ m. eqb (markOf N m) w) (take i cs))
   pub size : n ≡ length (filter (λ m. eqb (markOf N m) w) (take i cs))
 
-pub keeping-start : (N : List ℕ) (w : ℕ) (cs : List Mover) → Keeping N w cs (replicate MAX-ENEMIES blank) 0 0
+pub keeping-start : (N : List ℕ) (w : ℕ) (cs : List Mover) → Keeping N w cs (replicate MAX-ENEMIES blankSlot) 0 0
 keeping-start N w cs = record { outs = refl; size = refl }
 
 module _ {N : List ℕ} {w : ℕ} {cs out : List Mover} {n i : ℕ} (k : Keeping N w cs out n i) (d : Mover) (inn : i < length cs) (l : length cs ≡ MAX-ENEMIES) where
@@ -57,7 +57,7 @@ module _ {N : List ℕ} {w : ℕ} {cs out : List Mover} {n i : ℕ} (k : Keeping
       record { outs = k .outs ∙ sym (ap slots y); size = k .size ∙ sym (ap length y) }
 
 -- each of the first n creatures is on the grid
-pub on-grid : {cs : List Mover} {n : ℕ} → Closable cs n → (i : ℕ) (d : Mover) → i < n → cellOf d < CN → cellOf (getD cs i d) < CN
+pub on-grid : {cs : List Mover} {n : ℕ} → Closable cs n → (i : ℕ) (d : Mover) → i < n → placeOf d < CN → placeOf (getD cs i d) < CN
 on-grid {cs} {n} c i d h k =
-    subst (λ (m : Mover). cellOf m < CN) (getD-take n cs i d h)
-    (ltb-true (cellOf (getD (take n cs) i d)) CN (all-at inside (take n cs) i d (c .onGrid) (lt-ltb (cellOf d) CN k)))
+    subst (λ (m : Mover). placeOf m < CN) (getD-take n cs i d h)
+    (ltb-true (placeOf (getD (take n cs) i d)) CN (all-at inside (take n cs) i d (c .onGrid) (lt-ltb (placeOf d) CN k)))

@@ -8,10 +8,10 @@ use lib.ListN.{length, getD, set, length-set}
 use lib.Seq.{getD-set-other}
 use Rattle.laws.proofs.Choice.{below?}
 use Rattle.cutter_ground.specs.Cells.{CN}
-use Rattle.cutter_regions.specs.Seeking.{Queued}
+use Rattle.cutter_regions.specs.CodeSeeking.{Queued}
 use Rattle.cutter_regions.proofs.Seeking.{put}
-use Rattle.cutter_capture.specs.Steps.{KEPT}
-use Rattle.cutter_capture.specs.Choosing.{Marked}
+use Rattle.cutter_capture.specs.CodeSteps.{KEPT}
+use Rattle.cutter_capture.specs.CodeChoosing.{Marked}
 
 pub marked-start : (seen q : List ℕ) (a : ℕ) → length seen ≡ CN → Marked seen q a a seen
 marked-start seen q a l = record { len = l; hit = λ c o. let h = o .1 in let k = o .2 in absurd (omega arith); miss = λ c f. refl }

@@ -14,8 +14,8 @@ use Rattle.laws.proofs.Choice.{same?, below?}
 use Rattle.laws.proofs.Counts.{count-same, count-plus, count-mono, count-map}
 use Rattle.laws.proofs.Filter.{filter-ext, all-true}
 use Rattle.laws.proofs.Zip.{length-zipWith, getD-zipWith}
-use Rattle.cutter_ground.specs.Cells.{CN, CB-BLACK, CB-FILLED, cellOf}
-use Rattle.cutter_ground.specs.Visit.{SEEN}
+use Rattle.cutter_ground.specs.Cells.{CN, CB-BLACK, CB-FILLED}
+use Rattle.cutter_ground.specs.CodeVisit.{SEEN}
 use Rattle.cutter_ground.specs.declared.Mover.{Mover}
 use Rattle.cutter_joined.specs.Joined.{Right}
 use Rattle.cutter_joined.proofs.Joined.{right-le, right-black, black?}
@@ -27,8 +27,9 @@ use Rattle.cutter_closing.proofs.Roots.{counted-below}
 use Rattle.cutter_closing.specs.Account.{takenIn}
 use Rattle.cutter_closing.specs.declared.Cut.{Cut}
 use Rattle.cutter_capture.specs.declared.Herd.{Herd}
-use Rattle.cutter_capture.specs.Steps.{KEPT, markOf, keepOf, shut, Retained, Closes}
-use Rattle.cutter_capture.specs.Choosing.{Nothing, Keeps, ChosenBy, Markable, Marked}
+use Rattle.cutter_capture.specs.CodeSteps.{KEPT, markOf, keepOf, shut, Retained, Closes}
+use Rattle.cutter_capture.specs.CodeChoosing.{Nothing, Keeps, ChosenBy, Markable, Marked}
+use Rattle.cutter_ground.specs.Movers.{placeOf}
 
 and-true : (b : Bool) → (b && true) ≡ b
 and-true true = refl
@@ -156,7 +157,7 @@ module _ {g L : List ℕ} (R : Right g L) {limit : ℕ} {es : List Mover} {seen 
 
     herd-is : filter (λ e. eqb (markOf seen′ e) (keepOf a b)) es ≡ remaining L (kept limit L es) es
     unfolding remaining
-    herd-is = filter-ext (λ e. eqb (markOf seen′ e) (keepOf a b)) (λ e. eqb (regionOf L e) (kept limit L es)) (λ (_ : Mover). true) (λ e _. keep-is (cellOf e)) es (all-true es)
+    herd-is = filter-ext (λ e. eqb (markOf seen′ e) (keepOf a b)) (λ e. eqb (regionOf L e) (kept limit L es)) (λ (_ : Mover). true) (λ e _. keep-is (placeOf e)) es (all-true es)
 
     pub steps-closed : length g ≡ CN → (g′ : List ℕ) (r : Herd) (w : ℕ) → g′ ≡ zipWith shut g seen′ → w ≡ keepOf a b → Retained seen′ w es r → _≡_ {A = Cut} (record { grid = g′; enemies = r .enemies; count = r .count }) (closed limit g L es)
     steps-closed lg g′ r w e k t = rw (e, t .slot, t .many, k, herd-is, grid-is lg)

@@ -9,11 +9,11 @@ ghost use mathlib.Core.Path.{_≡_};
 ghost use mathlib.Core.List.{zipWith};
 ghost use lib.ListN.{length, take};
 ghost use Rattle.cutter_ground.specs.Cells.{CN};
-ghost use Rattle.cutter_ground.specs.Visit.{SEEN};
+ghost use Rattle.cutter_ground.specs.CodeVisit.{SEEN};
 ghost use Rattle.cutter_joined.proofs.Labels.{labels};
 ghost use Rattle.cutter_closing.specs.Closing.{claimLine, lineClaimed, closed, closeCut};
-ghost use Rattle.cutter_capture.specs.Steps.{KEPT, Closable, having, more, leader, Ordered, keepOf, shut, Retained, Closes, cutOf};
-ghost use Rattle.cutter_capture.specs.Choosing.{Numbered, Choosable, Chosen, Markable, Marked};
+ghost use Rattle.cutter_capture.specs.CodeSteps.{KEPT, Closable, having, more, leader, Ordered, keepOf, shut, Retained, Closes, cutOf};
+ghost use Rattle.cutter_capture.specs.CodeChoosing.{Numbered, Choosable, Chosen, Markable, Marked};
 
 // Most regions one cut counts; extra ones stay black.
 pub const MAX_COMP: usize = 48;

@@ -12,7 +12,7 @@ use Rattle.laws.specs.Lists.{all, any}
 use Rattle.laws.proofs.Choice.{and-left, bool-cases}
 use Rattle.cutter_ground.specs.Cells.{CB-TRAIL}
 use Rattle.cutter_state.specs.WellFormed.{isCode, isTrail}
-use Rattle.cutter_check.specs.Passes.{largestOf}
+use Rattle.cutter_check.specs.CodePasses.{largestOf}
 
 -- A loop that goes through the codes: the largest of m and those from i on is R.
 turn : (b : Bool) (m k : ℕ) (g : List ℕ) {R : ℕ} → ltb m k ≡ b → largestOf m (k ∷ g) ≡ R → largestOf (cond b k m) g ≡ R

@@ -5,10 +5,10 @@ ghost use Prim.Native.Nat.{_≤_};
 ghost use lib.Dec.{leb};
 ghost use lib.ListN.{length, take, drop};
 ghost use Rattle.laws.specs.Lists.{all};
-ghost use Rattle.cutter_ground.specs.Cells.{CN, MAX-ENEMIES};
+ghost use Rattle.cutter_ground.specs.Cells.{CN};
 ghost use Rattle.cutter_state.specs.State.{holdsAt};
-ghost use Rattle.cutter_state.specs.WellFormed.{rowsFilled, columnsFilled, cellsOk, footing, directionOk, isUnit, moverOk, blank, numbersOk, refusalOf};
-ghost use Rattle.cutter_check.specs.Passes.{largestOf, Counted};
+ghost use Rattle.cutter_state.specs.WellFormed.{rowsFilled, columnsFilled, cellsOk, footing, directionOk, isUnit, moverOk, isBlank, numbersOk, refusalOf};
+ghost use Rattle.cutter_check.specs.CodePasses.{largestOf, Counted};
 use cutter_ground::CB_BLACK;
 use cutter_ground::CB_FILLED;
 use cutter_ground::CB_TRAIL;
@@ -26,6 +26,7 @@ use refusal::NONE;
 use refusal::NUMBERS;
 use refusal::PLAYER;
 use refusal::Refusal;
+ghost use Rattle.cutter_ground.specs.Movers.{MAX-ENEMIES};
 
 // The largest code of the grid tells both whether all are codes and whether one is line.
 fn largest(grid: &[u8; CN]) -> u8
@@ -149,7 +150,7 @@ fn movers_ok(grid: &[u8; CN], enemies: [Mover; MAX_ENEMIES], count: usize) -> bo
 }
 
 fn blank_slot(e: Mover) -> bool
-    ensures { λ r. ⌜ r ≡ blank e ⌝ }
+    ensures { λ r. ⌜ r ≡ isBlank e ⌝ }
 {
     (e.x == 0) & (e.y == 0) & (e.vx == 0) & (e.vy == 0)
 }
@@ -157,7 +158,7 @@ fn blank_slot(e: Mover) -> bool
 // The slots past the count hold zeros.
 fn rest_blank(enemies: [Mover; MAX_ENEMIES], count: usize) -> bool
     requires { ⌜ count ≤ MAX-ENEMIES ⌝ }
-    ensures { λ r. ⌜ r ≡ all blank (drop count enemies) ⌝ }
+    ensures { λ r. ⌜ r ≡ all isBlank (drop count enemies) ⌝ }
 {
     let mut i = count;
     while i < MAX_ENEMIES {
@@ -172,7 +173,7 @@ fn rest_blank(enemies: [Mover; MAX_ENEMIES], count: usize) -> bool
 
 fn creatures_ok(grid: &[u8; CN], enemies: [Mover; MAX_ENEMIES], count: usize) -> bool
     requires { ⌜ length (now grid) ≡ CN ⌝ }
-    ensures { λ r. ⌜ r ≡ (leb count MAX-ENEMIES && all (moverOk (now (grid .entry))) (take count enemies) && all blank (drop count enemies)) ⌝ }
+    ensures { λ r. ⌜ r ≡ (leb count MAX-ENEMIES && all (moverOk (now (grid .entry))) (take count enemies) && all isBlank (drop count enemies)) ⌝ }
 {
     if MAX_ENEMIES < count {
         return false;

@@ -14,16 +14,17 @@ use Rattle.laws.proofs.Choice.{below?, same?, and-left, cond-both}
 use Rattle.laws.proofs.Counts.{count-map, count-plus}
 use Rattle.laws.proofs.Filter.{count-ext, count-not, count-zero, any-zero, length-filter, all-filter, all-passed, all-map, all-true}
 use Rattle.laws.proofs.Zip.{length-zipWith, getD-zipWith, count-zip-more, count-zip-less, all-zipWith}
-use Rattle.cutter_ground.specs.Cells.{CN, MAX-ENEMIES, CB-BLACK, CB-FILLED, CB-TRAIL, cellAt, blackAt, cellOf}
+use Rattle.cutter_ground.specs.Cells.{CN, CB-BLACK, CB-FILLED, CB-TRAIL, cellAt, blackAt, lineCount}
 use Rattle.cutter_ground.specs.declared.Mover.{Mover}
 use Rattle.cutter_joined.specs.Joined.{Right}
 use Rattle.cutter_joined.proofs.Joined.{right-black, black-in}
 use Rattle.cutter_joined.proofs.Labels.{labels}
 use Rattle.cutter_closing.specs.Counted.{counted}
 use Rattle.cutter_closing.proofs.Roots.{counted-below}
-use Rattle.cutter_closing.specs.Closing.{lineClaimed, claimLine, regionOf, kept, isTaken, claim, remaining, blank, closeCut}
-use Rattle.cutter_closing.specs.Account.{lineOf, takenIn, takenOf, goneOf}
+use Rattle.cutter_closing.specs.Closing.{lineClaimed, claimLine, regionOf, kept, isTaken, claim, remaining, closeCut}
+use Rattle.cutter_closing.specs.Account.{takenIn, takenOf, goneOf}
 use Rattle.cutter_closing.proofs.Labels.{length-claimLine}
+use Rattle.cutter_ground.specs.Movers.{MAX-ENEMIES, placeOf, blankSlot}
 
 -- ---- the line step
 
@@ -41,7 +42,7 @@ module _ (g : List ℕ) where
   unfolding tally
   black-line = count-map (λ x. eqb x CB-BLACK) lineClaimed g ∙ count-ext (λ x. eqb (lineClaimed x) CB-BLACK) (λ x. eqb x CB-BLACK) (λ _. true) (λ x _. line-black x) g (all-true g)
 
-  filled-line : tally CB-FILLED (claimLine g) ≡ tally CB-FILLED g + lineOf g
+  filled-line : tally CB-FILLED (claimLine g) ≡ tally CB-FILLED g + lineCount g
   unfolding tally
   filled-line = count-map (λ x. eqb x CB-FILLED) lineClaimed g ∙ count-plus (λ x. eqb (lineClaimed x) CB-FILLED) (λ x. eqb x CB-FILLED) (λ x. eqb x CB-TRAIL) line-filled g
 
@@ -99,7 +100,7 @@ module _ (limit : ℕ) (g : List ℕ) (es : List Mover) (len : length g ≡ CN) 
   right = labels (claimLine g) .1 line-length
 
   -- claimed after = claimed before + line + taken
-  pub claimed-after : tally CB-FILLED (closeCut limit g es .grid) ≡ tally CB-FILLED g + lineOf g + takenOf limit g es
+  pub claimed-after : tally CB-FILLED (closeCut limit g es .grid) ≡ tally CB-FILLED g + lineCount g + takenOf limit g es
   unfolding closeCut takenOf
   claimed-after = filled-claim right line-length limit es ∙ ap (λ (n : ℕ). n + takenIn limit (labels (claimLine g) .0) es) (filled-line g)
 
@@ -160,13 +161,13 @@ module _ (limit : ℕ) (g : List ℕ) (es : List Mover) (len : length g ≡ CN) 
   unfolding closeCut
   left-after =
       let rest = remaining (labels (claimLine g) .0) (kept limit (labels (claimLine g) .0) es) es in
-      take-append-seam rest (replicate (MAX-ENEMIES - length rest) blank)
+      take-append-seam rest (replicate (MAX-ENEMIES - length rest) blankSlot)
 
-  pub spare-after : drop (closeCut limit g es .count) (closeCut limit g es .enemies) ≡ replicate (MAX-ENEMIES - closeCut limit g es .count) blank
+  pub spare-after : drop (closeCut limit g es .count) (closeCut limit g es .enemies) ≡ replicate (MAX-ENEMIES - closeCut limit g es .count) blankSlot
   unfolding closeCut
   spare-after =
       let rest = remaining (labels (claimLine g) .0) (kept limit (labels (claimLine g) .0) es) es in
-      drop-append-seam rest (replicate (MAX-ENEMIES - length rest) blank)
+      drop-append-seam rest (replicate (MAX-ENEMIES - length rest) blankSlot)
 
   pub few-after : closeCut limit g es .count ≤ length es
   few-after = omega (arith, creatures-after)
@@ -175,7 +176,7 @@ module _ (limit : ℕ) (g : List ℕ) (es : List Mover) (len : length g ≡ CN) 
   unfolding closeCut
   slots-after h =
       let rest = remaining (labels (claimLine g) .0) (kept limit (labels (claimLine g) .0) es) es in
-      length-append rest (replicate (MAX-ENEMIES - length rest) blank) ∙ ap (λ (n : ℕ). length rest + n) (length-replicate (MAX-ENEMIES - length rest) blank) ∙ omega (arith, few-after)
+      length-append rest (replicate (MAX-ENEMIES - length rest) blankSlot) ∙ ap (λ (n : ℕ). length rest + n) (length-replicate (MAX-ENEMIES - length rest) blankSlot) ∙ omega (arith, few-after)
 
   -- what holds of each creature holds of each that remains
   pub all-left : (f : Mover → Bool) → all f es ≡ true → all f (take (closeCut limit g es .count) (closeCut limit g es .enemies)) ≡ true
@@ -183,13 +184,13 @@ module _ (limit : ℕ) (g : List ℕ) (es : List Mover) (len : length g ≡ CN) 
   all-left f a = rw left-after (all-filter (λ m. eqb (regionOf (labels (claimLine g) .0) m) (kept limit (labels (claimLine g) .0) es)) f es a)
 
   -- a black cell of the kept region stays black
-  kept-black : (m : Mover) → eqb (regionOf (labels (claimLine g) .0) m) (kept limit (labels (claimLine g) .0) es) ≡ true → blackAt g (cellOf m) ≡ true → blackAt (closeCut limit g es .grid) (cellOf m) ≡ true
+  kept-black : (m : Mover) → eqb (regionOf (labels (claimLine g) .0) m) (kept limit (labels (claimLine g) .0) es) ≡ true → blackAt g (placeOf m) ≡ true → blackAt (closeCut limit g es .grid) (placeOf m) ≡ true
   kept-black m e b =
-      let k = eqb-true (cellAt g (cellOf m)) CB-BLACK b in
-      eq-eqb (cellAt (closeCut limit g es .grid) (cellOf m)) CB-BLACK
-      (cell-after (cellOf m) (omega (arith, black-in g (cellOf m) k)) ∙ rw (e, k) (not-taken (any (eqb (regionOf (labels (claimLine g) .0) m)) (counted limit (labels (claimLine g) .0)))))
+      let k = eqb-true (cellAt g (placeOf m)) CB-BLACK b in
+      eq-eqb (cellAt (closeCut limit g es .grid) (placeOf m)) CB-BLACK
+      (cell-after (placeOf m) (omega (arith, black-in g (placeOf m) k)) ∙ rw (e, k) (not-taken (any (eqb (regionOf (labels (claimLine g) .0) m)) (counted limit (labels (claimLine g) .0)))))
 
   -- every creature left stands on black
-  pub left-on-black : all (λ m. blackAt g (cellOf m)) es ≡ true → all (λ m. blackAt (closeCut limit g es .grid) (cellOf m)) (take (closeCut limit g es .count) (closeCut limit g es .enemies)) ≡ true
+  pub left-on-black : all (λ m. blackAt g (placeOf m)) es ≡ true → all (λ m. blackAt (closeCut limit g es .grid) (placeOf m)) (take (closeCut limit g es .count) (closeCut limit g es .enemies)) ≡ true
   unfolding remaining
-  left-on-black a = rw left-after (all-passed (λ m. eqb (regionOf (labels (claimLine g) .0) m) (kept limit (labels (claimLine g) .0) es)) (λ m. blackAt g (cellOf m)) (λ m. blackAt (closeCut limit g es .grid) (cellOf m)) kept-black es a)
+  left-on-black a = rw left-after (all-passed (λ m. eqb (regionOf (labels (claimLine g) .0) m) (kept limit (labels (claimLine g) .0) es)) (λ m. blackAt g (placeOf m)) (λ m. blackAt (closeCut limit g es .grid) (placeOf m)) kept-black es a)

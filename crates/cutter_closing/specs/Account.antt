@@ -3,16 +3,11 @@ use mathlib.Core.Bool.{not}
 use mathlib.Core.List.{List}
 use Prim.Native.Nat.{ℕ}
 use lib.Dec.{eqb}
-use Rattle.laws.specs.Lists.{count, tally}
-use Rattle.cutter_ground.specs.Cells.{CB-TRAIL}
+use Rattle.laws.specs.Lists.{count}
 use Rattle.cutter_ground.specs.declared.Mover.{Mover}
 use Rattle.cutter_joined.proofs.Labels.{labels}
 use Rattle.cutter_closing.specs.Counted.{counted}
 use Rattle.cutter_closing.specs.Closing.{claimLine, regionOf, kept, isTaken}
-
--- line cells just before
-abbrev pub lineOf : List ℕ → ℕ
-lineOf g = tally CB-TRAIL g
 
 -- cells of the regions taken, of a labelling
 abbrev pub takenIn : ℕ → List ℕ → List Mover → ℕ

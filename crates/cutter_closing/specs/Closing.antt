@@ -1,16 +1,16 @@
 -- Closing a cut, as document 01 has it: a function of the limit, the grid, its right labelling L and the creatures.
 use mathlib.Core.Bool.{Bool, cond, not, _&&_, _||_}
-use mathlib.Core.List.{List, [], _∷_, _++_, map, zipWith}
-use Prim.Native.Nat.{ℕ, _-_}
+use mathlib.Core.List.{List, [], _∷_, map, zipWith}
+use Prim.Native.Nat.{ℕ}
 use lib.Dec.{eqb, ltb}
-use lib.IntN.{pos}
-use lib.ListN.{length, getD, replicate}
+use lib.ListN.{length, getD}
 use Rattle.laws.specs.Lists.{any, count, filter}
-use Rattle.cutter_ground.specs.Cells.{CN, CB-FILLED, CB-TRAIL, MAX-ENEMIES, cellOf}
+use Rattle.cutter_ground.specs.Cells.{CN, CB-FILLED, CB-TRAIL}
 use Rattle.cutter_ground.specs.declared.Mover.{Mover}
 use Rattle.cutter_joined.proofs.Labels.{labels}
 use Rattle.cutter_closing.specs.Counted.{counted, cellsIn}
 use Rattle.cutter_closing.specs.declared.Cut.{Cut}
+use Rattle.cutter_ground.specs.Movers.{placeOf, slots}
 
 -- line becomes claimed
 abbrev pub lineClaimed : ℕ → ℕ
@@ -21,7 +21,7 @@ claimLine g = map lineClaimed g
 
 -- the region in which a creature stands
 abbrev pub regionOf : List ℕ → Mover → ℕ
-regionOf L m = getD L (cellOf m) CN
+regionOf L m = getD L (placeOf m) CN
 
 abbrev pub creaturesIn : List ℕ → List Mover → ℕ → ℕ
 creaturesIn L es r = count (λ m. eqb (regionOf L m) r) es
@@ -54,13 +54,6 @@ claim rs w g L = zipWith (λ x r. cond (isTaken rs w r) CB-FILLED x) g L
 -- only creatures in the kept region remain, in order
 unfoldable pub remaining : List ℕ → ℕ → List Mover → List Mover
 remaining L w es = filter (λ m. eqb (regionOf L m) w) es
-
--- slots behind the creatures hold zeros
-abbrev pub blank : Mover
-blank = record { x = 0; y = 0; vx = pos 0; vy = pos 0 }
-
-abbrev pub slots : List Mover → List Mover
-slots es = es ++ replicate (MAX-ENEMIES - length es) blank
 
 abbrev pub herd : List ℕ → List Mover → Cut
 herd g es = record { grid = g; enemies = slots es; count = length es }

@@ -8,7 +8,7 @@ use lib.ListN.{length, set, length-set, List·getD-eq-default}
 use Rattle.laws.specs.Lists.{tally}
 use Rattle.laws.proofs.Choice.{below?}
 use Rattle.laws.proofs.Counts.{tally-lose}
-use Rattle.cutter_ground.specs.Visit.{SEEN, Holds, Room, Visited}
+use Rattle.cutter_ground.specs.CodeVisit.{SEEN, Holds, Room, Visited}
 
 -- what holds a code is a cell of the grid
 pub holds-in : (g : List ℕ) (k c : ℕ) → k < 3 → Holds g k c → c < length g

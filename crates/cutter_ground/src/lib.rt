@@ -2,14 +2,18 @@
 ghost use mathlib.Core.Path.{_≡_};
 ghost use lib.ListN.{length};
 ghost use Rattle.laws.specs.Lists.{tally};
-ghost use Rattle.cutter_ground.specs.Cells.{CN, cellAt, leftOf, rightOf, upOf, downOf, blackAt, onBorder, blackCount, cellOf, standsAt};
-ghost use Rattle.cutter_ground.specs.Visit.{Room, Visited, Around};
+ghost use Rattle.cutter_ground.specs.Cells.{CN, cellAt, leftOf, rightOf, upOf, downOf, blackAt, onBorder, blackCount};
+ghost use Rattle.cutter_ground.specs.CodeVisit.{Room, Visited, Around};
+ghost use Rattle.cutter_ground.specs.Movers.{placeOf, standsAt};
 
 pub const CW: usize = 64;
 
 pub const CH: usize = 32;
 
 pub const CN: usize = CW * CH;
+
+// The cells inside the ring.
+pub const INNER: usize = (CW - 2) * (CH - 2);
 
 pub const CB_BLACK: u8 = 0;
 
@@ -33,7 +37,7 @@ pub struct Mover {
 
 // The cell of a creature.
 pub fn cell_of(e: Mover) -> usize
-    ensures { λ r. ⌜ r ≡ cellOf e ⌝ }
+    ensures { λ r. ⌜ r ≡ placeOf e ⌝ }
 {
     (e.y as usize) * CW + (e.x as usize)
 }

@@ -3,7 +3,7 @@ use mathlib.Core.Bool.{Bool, true, false}
 use mathlib.Core.Path.{_≡_, subst}
 use native.Mathlib.Omega.{arith}
 use Rattle.cutter_ground.specs.Cells.{CB-FILLED}
-use Rattle.cutter_border.specs.Walks.{claimed}
+use Rattle.cutter_border.specs.Walks.{claimedCell}
 use Rattle.cutter_border.proofs.Reaching.{claimed-in, claimed-code, code-claimed}
 use Rattle.cutter_border.proofs.Spellings.{nearest-claimed}
 use Rattle.cutter_border.proofs.Nearest.{nearest}
@@ -17,7 +17,7 @@ use Rattle.cutter_keeps.proofs.Changes.{kept-self, kept-player}
 use Rattle.cutter_keeps.proofs.Creatures.{cell-holds}
 
 -- a player that isn't trailing stands on a claimed cell
-pub standing : (s : Cutter) → WellFormed s → s .trailing ≡ false → claimed (s .grid) (playerCell s) ≡ true
+pub standing : (s : Cutter) → WellFormed s → s .trailing ≡ false → claimedCell (s .grid) (playerCell s) ≡ true
 standing s w e =
     let g = s .grid in
     let p : holdsAt g CB-FILLED (s .px) (s .py) ≡ true = subst (λ (b : Bool). holdsAt g (footing b) (s .px) (s .py) ≡ true) e (w .player) in

@@ -7,13 +7,13 @@ use native.Mathlib.Omega.{arith}
 use lib.IntN.{ℤ}
 use lib.ListN.{length, take, drop}
 use Rattle.laws.specs.Lists.{all}
-use Rattle.cutter_ground.specs.Cells.{MAX-ENEMIES}
 use Rattle.cutter_ground.specs.declared.Mover.{Mover}
 use Rattle.cutter_state.specs.declared.Cutter.{Cutter}
 use Rattle.cutter_state.specs.State.{holdsAt}
 use Rattle.cutter_state.specs.Change.{withPlayer, withDirection, withCreatures, withLevel, withLives, withDead, withWon}
-use Rattle.cutter_state.specs.WellFormed.{MAX-LIVES, MAX-LEVEL, footing, directionOk, moverOk, blank, WellFormed}
+use Rattle.cutter_state.specs.WellFormed.{MAX-LIVES, MAX-LEVEL, footing, directionOk, moverOk, isBlank, WellFormed}
 use Rattle.cutter_keeps.specs.Kept.{Kept, Erased, Closed}
+use Rattle.cutter_ground.specs.Movers.{MAX-ENEMIES}
 
 pub kept-self : {c : Cutter} → WellFormed c → Kept c c
 kept-self w = record { formed = w; black = refl; claimed = refl; line = refl; creatures = refl }
@@ -84,7 +84,7 @@ module _ {c s : Cutter} (k : Kept c s) where
   kept-won b = kept-about (s .px) (s .py) (s .dx) (s .dy) (s .level) (s .lives) (s .dead) b (w .player) (w .direction) (w .lives) (w .level)
 
   -- as many creatures, each right by itself
-  pub kept-creatures : (es : List Mover) → length es ≡ MAX-ENEMIES → all (moverOk (s .grid)) (take (s .count) es) ≡ true → all blank (drop (s .count) es) ≡ true → Kept c (withCreatures s es (s .count))
+  pub kept-creatures : (es : List Mover) → length es ≡ MAX-ENEMIES → all (moverOk (s .grid)) (take (s .count) es) ≡ true → all isBlank (drop (s .count) es) ≡ true → Kept c (withCreatures s es (s .count))
   kept-creatures es l a b =
       record {
         formed = record { cells = w .cells; codes = w .codes; rows = w .rows; columns = w .columns; line = w .line; player = w .player; direction = w .direction; slots = l; few = w .few; each = a; rest = b; lives = w .lives; level = w .level };

@@ -10,7 +10,7 @@ use borrow.Author.Tests.{eqb-true}
 use Rattle.laws.specs.Lists.{all}
 use Rattle.laws.proofs.Choice.{and-left, and-right, and-both}
 use Rattle.laws.proofs.Lists.{all-weaken}
-use Rattle.cutter_ground.specs.Cells.{CN, CB-BLACK, CB-FILLED, MAX-ENEMIES, cellAt, blackAt, cellOf}
+use Rattle.cutter_ground.specs.Cells.{CN, CB-BLACK, CB-FILLED, cellAt, blackAt}
 use Rattle.cutter_ground.specs.declared.Mover.{Mover}
 use Rattle.cutter_closing.specs.Counted.{MAX-COMP}
 use Rattle.cutter_closing.specs.Closing.{closeCut}
@@ -27,15 +27,16 @@ use Rattle.cutter_keeps.specs.Steps.{takenBy, goneBy}
 use Rattle.cutter_keeps.proofs.Border.{border-kept}
 use Rattle.cutter_keeps.proofs.Changes.{closed-then}
 use Rattle.cutter_keeps.proofs.Creatures.{cell-holds, mover-still, zeros-blank}
+use Rattle.cutter_ground.specs.Movers.{MAX-ENEMIES, placeOf}
 
 -- creatures that were right by themselves, and stand on black now
-movers-on : (g h : List ℕ) (es : List Mover) → all (moverOk g) es ≡ true → all (λ e. blackAt h (cellOf e)) es ≡ true → all (moverOk h) es ≡ true
+movers-on : (g h : List ℕ) (es : List Mover) → all (moverOk g) es ≡ true → all (λ e. blackAt h (placeOf e)) es ≡ true → all (moverOk h) es ≡ true
 movers-on g h [] a b = refl
 movers-on g h (e ∷ es) a b =
-    let on = eqb-true (cellAt h (cellOf e)) CB-BLACK (and-left (blackAt h (cellOf e)) (all (λ e. blackAt h (cellOf e)) es) b) in
+    let on = eqb-true (cellAt h (placeOf e)) CB-BLACK (and-left (blackAt h (placeOf e)) (all (λ e. blackAt h (placeOf e)) es) b) in
     and-both (moverOk h e) (all (moverOk h) es)
     (mover-still g h e (λ _. on) (and-left (moverOk g e) (all (moverOk g) es) a))
-    (movers-on g h es (and-right (moverOk g e) (all (moverOk g) es) a) (and-right (blackAt h (cellOf e)) (all (λ e. blackAt h (cellOf e)) es) b))
+    (movers-on g h es (and-right (moverOk g e) (all (moverOk g) es) a) (and-right (blackAt h (placeOf e)) (all (λ e. blackAt h (placeOf e)) es) b))
 
 module _ {c : Cutter} (w : WellFormed c) (t : ℕ) (h : t < CN) (f : cellAt (c .grid) t ≡ CB-FILLED) where
   abbrev g : List ℕ
@@ -70,7 +71,7 @@ module _ {c : Cutter} (w : WellFormed c) (t : ℕ) (h : t < CN) (f : cellAt (c .
           direction = w .direction;
           slots = slots-after MAX-COMP g es (w .cells) (omega (arith, many, w .few));
           few = omega (arith, few-after MAX-COMP g es (w .cells), many, w .few);
-          each = movers-on g g′ (take (cut .count) (cut .enemies)) (all-left MAX-COMP g es (w .cells) (moverOk g) (w .each)) (left-on-black MAX-COMP g es (w .cells) (all-weaken (moverOk g) (λ e. blackAt g (cellOf e)) (mover-black g) es (w .each)));
+          each = movers-on g g′ (take (cut .count) (cut .enemies)) (all-left MAX-COMP g es (w .cells) (moverOk g) (w .each)) (left-on-black MAX-COMP g es (w .cells) (all-weaken (moverOk g) (λ e. blackAt g (placeOf e)) (mover-black g) es (w .each)));
           rest = rw (spare-after MAX-COMP g es (w .cells)) (zeros-blank (MAX-ENEMIES - cut .count));
           lives = w .lives;
           level = w .level;

@@ -9,12 +9,12 @@ use lib.Seq.{take-at, drop-at}
 use Rattle.laws.specs.Lists.{all, any}
 use Rattle.laws.proofs.Lists.{all-replicate}
 use Rattle.laws.proofs.Choice.{and-left, and-right, and-both, and-three, or-left, or-right}
-use Rattle.cutter_ground.specs.Cells.{CW, CN, CB-BLACK, MAX-ENEMIES, cellAt, cellOf}
+use Rattle.cutter_ground.specs.Cells.{CW, CN, CB-BLACK, cellAt}
 use Rattle.cutter_ground.specs.declared.Mover.{Mover}
-use Rattle.cutter_closing.specs.Closing.{slots, blank as zeros}
 use Rattle.cutter_state.specs.State.{holdsAt}
-use Rattle.cutter_state.specs.WellFormed.{isUnit, moverOk, blank}
+use Rattle.cutter_state.specs.WellFormed.{isUnit, moverOk, isBlank}
 use Rattle.cutter_state.proofs.Ring.{holds-inside, holds-code, code-holds}
+use Rattle.cutter_ground.specs.Movers.{MAX-ENEMIES, placeOf, slots, blankSlot as zeros}
 
 -- a cell of the grid, by its column and row
 pub cell-holds : (g : List ℕ) (k t : ℕ) → t < CN → cellAt g t ≡ k → holdsAt g k (t % CW) (t / CW) ≡ true
@@ -24,7 +24,7 @@ cell-holds g k t h e =
 
 -- ---- where each creature's cell is black still
 
-pub mover-still : (g h : List ℕ) (e : Mover) → (cellAt g (cellOf e) ≡ CB-BLACK → cellAt h (cellOf e) ≡ CB-BLACK) → moverOk g e ≡ true → moverOk h e ≡ true
+pub mover-still : (g h : List ℕ) (e : Mover) → (cellAt g (placeOf e) ≡ CB-BLACK → cellAt h (placeOf e) ≡ CB-BLACK) → moverOk g e ≡ true → moverOk h e ≡ true
 unfolding moverOk
 mover-still g h e s m =
     let t = and-three (holdsAt g CB-BLACK (e .x) (e .y)) (isUnit (e .vx)) (isUnit (e .vy)) m in
@@ -33,7 +33,7 @@ mover-still g h e s m =
     rw (here, t .1) (t .2)
 
 -- of creatures, none of whom is one of those that `off` tells
-pub movers-still : (g h : List ℕ) (off : Mover → Bool) → ((e : Mover) → off e ≡ false → cellAt g (cellOf e) ≡ CB-BLACK → cellAt h (cellOf e) ≡ CB-BLACK)
+pub movers-still : (g h : List ℕ) (off : Mover → Bool) → ((e : Mover) → off e ≡ false → cellAt g (placeOf e) ≡ CB-BLACK → cellAt h (placeOf e) ≡ CB-BLACK)
     → (es : List Mover) → any off es ≡ false → all (moverOk g) es ≡ true → all (moverOk h) es ≡ true
 movers-still g h off s [] n a = refl
 movers-still g h off s (e ∷ es) n a =
@@ -43,9 +43,9 @@ movers-still g h off s (e ∷ es) n a =
 
 -- ---- slots: the creatures come first, and zeros stand behind them
 
-pub zeros-blank : (n : ℕ) → all blank (replicate n zeros) ≡ true
-unfolding blank
-zeros-blank n = all-replicate blank n zeros refl
+pub zeros-blank : (n : ℕ) → all isBlank (replicate n zeros) ≡ true
+unfolding isBlank
+zeros-blank n = all-replicate isBlank n zeros refl
 
 module _ (es : List Mover) (n : ℕ) (e : length es ≡ n) where
   abbrev behind : List Mover
@@ -57,5 +57,5 @@ module _ (es : List Mover) (n : ℕ) (e : length es ≡ n) where
   pub slots-each : take n (slots es) ≡ es
   slots-each = take-at es behind n e
 
-  pub slots-rest : all blank (drop n (slots es)) ≡ true
+  pub slots-rest : all isBlank (drop n (slots es)) ≡ true
   slots-rest = rw (drop-at es behind n e) (zeros-blank (MAX-ENEMIES - length es))

@@ -7,13 +7,12 @@ use lib.ListN.{length}
 use borrow.Author.Tests.{eqb-true, eq-eqb}
 use Rattle.laws.specs.Lists.{tally}
 use Rattle.laws.proofs.Counts.{count-mono}
-use Rattle.cutter_ground.specs.Cells.{CW, CN, CB-BLACK, CB-FILLED, cellAt}
+use Rattle.cutter_ground.specs.Cells.{CW, CN, CB-BLACK, CB-FILLED, cellAt, INNER, place}
 use Rattle.cutter_state.specs.declared.Cutter.{Cutter}
-use Rattle.cutter_state.specs.State.{place}
+use Rattle.cutter_state.specs.State.{blackIn}
 use Rattle.cutter_state.specs.WellFormed.{WellFormed}
 use Rattle.cutter_state.proofs.Ring.{inside-ring}
 use Rattle.cutter_rules.specs.Level.{freshGrid}
-use Rattle.cutter_keeps.specs.Kept.{INNER, blackIn}
 use Rattle.cutter_keeps.proofs.Level.{inner-black, ground}
 
 -- where the grid is black, a fresh one is

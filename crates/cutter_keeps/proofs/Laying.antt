@@ -11,7 +11,7 @@ use borrow.Author.Tests.{eq-eqb, eqb-false}
 use Rattle.laws.specs.Lists.{all, any, tally}
 use Rattle.laws.proofs.Lists.{getD-default, all-set, any-at}
 use Rattle.laws.proofs.Counts.{count-set, tally-lose, tally-gain}
-use Rattle.cutter_ground.specs.Cells.{CN, CB-BLACK, CB-FILLED, CB-TRAIL, cellAt, cellOf}
+use Rattle.cutter_ground.specs.Cells.{CN, CB-BLACK, CB-FILLED, CB-TRAIL, cellAt}
 use Rattle.cutter_ground.specs.declared.Mover.{Mover}
 use Rattle.cutter_state.specs.declared.Cutter.{Cutter}
 use Rattle.cutter_state.specs.State.{creatures}
@@ -21,6 +21,7 @@ use Rattle.cutter_state.proofs.Ring.{rows-kept, columns-kept}
 use Rattle.cutter_rules.specs.Step.{laid}
 use Rattle.cutter_keeps.specs.Kept.{Laid}
 use Rattle.cutter_keeps.proofs.Creatures.{cell-holds, movers-still}
+use Rattle.cutter_ground.specs.Movers.{placeOf}
 
 module _ (g : List ℕ) (t : ℕ) (h : t < length g) (b : cellAt g t ≡ CB-BLACK) where
   laid-other : (i : ℕ) → (i ≡ t → ⊥) → cellAt (set g t CB-TRAIL) i ≡ cellAt g i
@@ -30,14 +31,14 @@ module _ (g : List ℕ) (t : ℕ) (h : t < length g) (b : cellAt g t ≡ CB-BLAC
   laid-filled i e =
       laid-other i (λ q. let z : _≡_ {A = ℕ} 0 1 = sym b ∙ ap (cellAt g) (sym q) ∙ e in omega arith) ∙ e
 
-  laid-movers : (es : List Mover) → any (λ e. eqb (cellOf e) t) es ≡ false → all (moverOk g) es ≡ true → all (moverOk (set g t CB-TRAIL)) es ≡ true
-  laid-movers = movers-still g (set g t CB-TRAIL) (λ e. eqb (cellOf e) t) (λ e n q. laid-other (cellOf e) (eqb-false (cellOf e) t n) ∙ q)
+  laid-movers : (es : List Mover) → any (λ e. eqb (placeOf e) t) es ≡ false → all (moverOk g) es ≡ true → all (moverOk (set g t CB-TRAIL)) es ≡ true
+  laid-movers = movers-still g (set g t CB-TRAIL) (λ e. eqb (placeOf e) t) (λ e n q. laid-other (placeOf e) (eqb-false (placeOf e) t n) ∙ q)
 
   laid-claimed : tally CB-FILLED (set g t CB-TRAIL) ≡ tally CB-FILLED g
   unfolding tally
   laid-claimed = let q = rw b at (count-set (λ x. eqb x CB-FILLED) g t CB-TRAIL CB-FILLED h) in omega arith
 
-pub laying : {c : Cutter} → WellFormed c → (t : ℕ) (d : Bool) → t < CN → d ≡ true → cellAt (c .grid) t ≡ CB-BLACK → any (λ e. eqb (cellOf e) t) (creatures c) ≡ false → Laid c (withTrailing (laid c t) d)
+pub laying : {c : Cutter} → WellFormed c → (t : ℕ) (d : Bool) → t < CN → d ≡ true → cellAt (c .grid) t ≡ CB-BLACK → any (λ e. eqb (placeOf e) t) (creatures c) ≡ false → Laid c (withTrailing (laid c t) d)
 laying {c} w t d h f b n =
     let g = c .grid in
     let i : t < length g = omega (arith, w .cells) in

@@ -9,14 +9,14 @@ use lib.Seq.{getD-append-add}
 use Rattle.laws.specs.Lists.{all, any, table, tally}
 use Rattle.laws.proofs.Below.{same-below}
 use Rattle.laws.proofs.Table.{length-table, all-table}
-use Rattle.cutter_ground.specs.Cells.{CW, CH, CN, CB-BLACK, CB-FILLED, CB-TRAIL, cellAt}
+use Rattle.cutter_ground.specs.Cells.{CW, CH, CN, CB-BLACK, CB-FILLED, CB-TRAIL, cellAt, INNER, RING, place}
 use Rattle.cutter_state.specs.declared.Cutter.{Cutter}
-use Rattle.cutter_state.specs.State.{place, holdsAt}
+use Rattle.cutter_state.specs.State.{holdsAt}
 use Rattle.cutter_state.specs.WellFormed.{MAX-LIVES, MAX-LEVEL, isCode, isTrail, rowsFilled, columnsFilled, isUnit, moverOk}
 use Rattle.cutter_state.proofs.Ring.{code-holds}
-use Rattle.cutter_rules.specs.Level.{edge, between, rows, freshGrid, creaturesOf, drawAt, inRange, drawsOk, velocity, drawn, atStart, freshLevel}
+use Rattle.cutter_rules.specs.Level.{edge, between, rows, freshGrid, creaturesOf, drawAt, inRange, drawsOk, velocity, drawnMover, atStart, freshLevel}
 use Rattle.cutter_rules.proofs.Draws.{creatures-few, place-fits, draws-fit}
-use Rattle.cutter_keeps.specs.Kept.{INNER, RING, Fresh}
+use Rattle.cutter_keeps.specs.Kept.{Fresh}
 use Rattle.cutter_keeps.proofs.Creatures.{slots-length, slots-each, slots-rest}
 
 -- ---- inside the ring is black
@@ -55,8 +55,8 @@ unfolding velocity
 velocity-unit zero = refl
 velocity-unit (suc d) = refl
 
-drawn-ok : (draws : List ℕ) (i : ℕ) → inRange draws i ≡ true → moverOk freshGrid (drawn draws i) ≡ true
-unfolding moverOk drawn
+drawn-ok : (draws : List ℕ) (i : ℕ) → inRange draws i ≡ true → moverOk freshGrid (drawnMover draws i) ≡ true
+unfolding moverOk drawnMover
 drawn-ok draws i r =
     let f = place-fits draws i r in
     let h = code-holds freshGrid CB-BLACK (1 + drawAt draws i 0) (1 + drawAt draws i 1) (omega arith) (omega arith) (inner-black (drawAt draws i 0) (drawAt draws i 1) (f .0) (f .1)) in
@@ -85,8 +85,8 @@ unfolding freshLevel atStart
 level-fresh c draws h a b o =
     let n = creaturesOf (c .level) in
     let few = creatures-few (c .level) in
-    let es = table n (drawn draws) in
-    let len = length-table n (drawn draws) in
+    let es = table n (drawnMover draws) in
+    let len = length-table n (drawnMover draws) in
     record {
       formed = record {
         cells = ground .cells;
@@ -98,7 +98,7 @@ level-fresh c draws h a b o =
         direction = refl;
         slots = slots-length es n len few;
         few = few;
-        each = rw (slots-each es n len) (all-table (moverOk freshGrid) n (drawn draws) (λ k l. drawn-ok draws k (draws-fit draws n o k l)));
+        each = rw (slots-each es n len) (all-table (moverOk freshGrid) n (drawnMover draws) (λ k l. drawn-ok draws k (draws-fit draws n o k l)));
         rest = slots-rest es n len;
         lives = h;
         level = (a, b);

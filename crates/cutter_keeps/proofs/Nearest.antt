@@ -7,19 +7,17 @@ use borrow.Author.Tests.{eqb-true, ltb-true}
 use lib.Dec.{ltb}
 use Rattle.laws.proofs.Choice.{and-left, and-right, and-three}
 use Rattle.found.specs.First.{nobody}
-use Rattle.cutter_ground.specs.Cells.{CW, CN, CB-FILLED, cellAt}
+use Rattle.cutter_ground.specs.Cells.{CW, CN, CB-FILLED, cellAt, claimedAt, place}
 use Rattle.cutter_border.specs.Nearest.{Nearest}
 use Rattle.cutter_border.proofs.Reaching.{claimed-in}
 use Rattle.cutter_border.proofs.Nearest.{nearest}
 use Rattle.cutter_border.proofs.Spellings.{nearest-unique, nearest-already, nearest-unreached}
 use Rattle.cutter_state.specs.declared.Cutter.{Cutter}
-use Rattle.cutter_state.specs.State.{place, creatures}
+use Rattle.cutter_state.specs.State.{creatures, lineIn}
 use Rattle.cutter_state.specs.WellFormed.{WellFormed}
 use Rattle.cutter_rules.specs.Level.{atStart}
-use Rattle.cutter_rules.specs.Tick.{creatureAt}
-use Rattle.cutter_rules.specs.Step.{noDirection, playerCell, target, claimedAt, entered, cutClosed, atBorder, stepped, respawned}
+use Rattle.cutter_rules.specs.Step.{noDirection, playerCell, target, entered, cutClosed, atBorder, stepped, respawned, creatureAt}
 use Rattle.cutter_rules.proofs.Step.{place-cell}
-use Rattle.cutter_keeps.specs.Kept.{lineIn}
 use Rattle.cutter_keeps.specs.Steps.{advances, closes}
 use Rattle.cutter_keeps.specs.Nearest.{Reappears, NearestKept}
 use Rattle.cutter_keeps.proofs.Border.{standing}

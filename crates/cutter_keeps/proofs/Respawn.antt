@@ -12,7 +12,7 @@ use Rattle.laws.specs.Lists.{all, bit, tally}
 use Rattle.laws.proofs.Choice.{same?}
 use Rattle.laws.proofs.Counts.{count-map, count-plus}
 use Rattle.laws.proofs.Filter.{count-ext, all-map, all-true, count-zero, any-zero}
-use Rattle.cutter_ground.specs.Cells.{CW, CB-BLACK, CB-FILLED, CB-TRAIL, cellAt, cellOf}
+use Rattle.cutter_ground.specs.Cells.{CW, CB-BLACK, CB-FILLED, CB-TRAIL, cellAt}
 use Rattle.cutter_state.specs.declared.Cutter.{Cutter}
 use Rattle.cutter_state.specs.State.{creatures}
 use Rattle.cutter_state.specs.Change.{withGrid}
@@ -24,6 +24,7 @@ use Rattle.cutter_keeps.specs.Kept.{Erased}
 use Rattle.cutter_keeps.proofs.Border.{border-kept}
 use Rattle.cutter_keeps.proofs.Changes.{erased-then}
 use Rattle.cutter_keeps.proofs.Creatures.{movers-still}
+use Rattle.cutter_ground.specs.Movers.{placeOf}
 
 -- ---- a code
 
@@ -85,7 +86,7 @@ erased-start c w =
         direction = refl;
         slots = w .slots;
         few = w .few;
-        each = movers-still g (map lineErased g) (λ _. false) (λ e _ b. erased-at g (cellOf e) CB-BLACK refl b) (creatures c) (any-zero (λ _. false) (creatures c) (all-true (creatures c))) (w .each);
+        each = movers-still g (map lineErased g) (λ _. false) (λ e _ b. erased-at g (placeOf e) CB-BLACK refl b) (creatures c) (any-zero (λ _. false) (creatures c) (all-true (creatures c))) (w .each);
         rest = w .rest;
         lives = w .lives;
         level = w .level;

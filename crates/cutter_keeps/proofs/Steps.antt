@@ -15,18 +15,18 @@ use Rattle.found.specs.First.{nobody}
 use Rattle.found.specs.declared.Found.{Found}
 use Rattle.found.specs.declared.Found.the-variants.{At, Nobody}
 use Rattle.found.proofs.First.{nobody-any}
-use Rattle.cutter_ground.specs.Cells.{CN, CB-BLACK, CB-FILLED, CB-TRAIL, cellAt, onBorder, cellOf}
+use Rattle.cutter_ground.specs.Cells.{CN, CB-BLACK, CB-FILLED, CB-TRAIL, cellAt, onBorder, lineAt, claimedAt}
 use Rattle.cutter_state.specs.declared.Cutter.{Cutter}
 use Rattle.cutter_state.specs.State.{creatures}
 use Rattle.cutter_state.specs.WellFormed.{isCode, isTrail, WellFormed}
-use Rattle.cutter_rules.specs.Tick.{creatureAt, lineAt}
-use Rattle.cutter_rules.specs.Step.{noDirection, target, claimedAt, entered, cutClosed, atBorder, trailingStep, walkingStep, met, stepped}
+use Rattle.cutter_rules.specs.Step.{noDirection, target, entered, cutClosed, atBorder, trailingStep, walkingStep, met, stepped, creatureAt}
 use Rattle.cutter_keeps.specs.Kept.{Kept, Laid, Closed}
 use Rattle.cutter_keeps.specs.Steps.{advances, closes, lays, takenBy, goneBy, Stepped}
 use Rattle.cutter_keeps.proofs.Changes.{kept-self, kept-player, kept-direction, kept-dead}
 use Rattle.cutter_keeps.proofs.Closing.{closing}
 use Rattle.cutter_keeps.proofs.Creatures.{cell-holds}
 use Rattle.cutter_keeps.proofs.Laying.{laying}
+use Rattle.cutter_ground.specs.Movers.{placeOf}
 
 -- ---- which of the three it is
 
@@ -76,7 +76,7 @@ module _ {c : Cutter} (w : WellFormed c) where
     unfolding lays
     lays-at k f = rw (on, f)
 
-    module _ (n : any (λ e. eqb (cellOf e) t) (creatures c) ≡ false) where
+    module _ (n : any (λ e. eqb (placeOf e) t) (creatures c) ≡ false) where
       trailing-stepped : c .trailing ≡ true → Stepped c (trailingStep c t)
       unfolding trailingStep
       trailing-stepped e =
@@ -105,7 +105,7 @@ module _ {c : Cutter} (w : WellFormed c) where
   met-stepped (At i n) d h q = halted (advances-by d true (At i n) (lt-ltb t CN h) q) (kept-dead (kept-self w) true)
   met-stepped Nobody d h q =
       let on = advances-by d true Nobody (lt-ltb t CN h) q in
-      let n = not-true (any (λ e. eqb (cellOf e) t) (creatures c)) (sym (nobody-any (λ e. eqb (cellOf e) t) (creatures c)) ∙ ap nobody q) in
+      let n = not-true (any (λ e. eqb (placeOf e) t) (creatures c)) (sym (nobody-any (λ e. eqb (placeOf e) t) (creatures c)) ∙ ap nobody q) in
       cond-both (Stepped c) (c .trailing) _ _ (λ e. trailing-stepped on h n e) (λ e. walking-stepped on h n e)
 
 none-advances : (c : Cutter) → noDirection c ≡ true → advances c ≡ false

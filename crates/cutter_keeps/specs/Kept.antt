@@ -1,28 +1,11 @@
 -- What a rule of Block Cutter does to the numbers of a well-formed state: black, claimed and line cells, and creatures.
 use mathlib.Core.Path.{_≡_}
-use Prim.Native.Nat.{ℕ, _+_, _-_, _*_}
-use Rattle.laws.specs.Lists.{tally}
-use Rattle.cutter_ground.specs.Cells.{CW, CH, CB-FILLED, blackCount}
-use Rattle.cutter_closing.specs.Account.{lineOf}
+use Prim.Native.Nat.{ℕ, _+_}
+use Rattle.cutter_ground.specs.Cells.{INNER, RING}
 use Rattle.cutter_state.specs.declared.Cutter.{Cutter}
 use Rattle.cutter_state.specs.WellFormed.{WellFormed}
 use Rattle.cutter_rules.specs.Level.{creaturesOf}
-
-abbrev pub blackIn : Cutter → ℕ
-blackIn c = blackCount (c .grid)
-
-abbrev pub claimedIn : Cutter → ℕ
-claimedIn c = tally CB-FILLED (c .grid)
-
-abbrev pub lineIn : Cutter → ℕ
-lineIn c = lineOf (c .grid)
-
--- the cells inside the ring, 1,860, and those of the ring, 188
-abbrev pub INNER : ℕ
-INNER = (CW - 2) * (CH - 2)
-
-abbrev pub RING : ℕ
-RING = CW * CH - INNER
+use Rattle.cutter_state.specs.State.{blackIn, claimedIn, lineIn}
 
 -- from c to s: s is well formed, and its numbers are c's
 pub record Kept (c s : Cutter) : Type 0 where

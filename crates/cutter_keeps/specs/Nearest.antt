@@ -2,20 +2,19 @@
 use mathlib.Core.Bool.{true}
 use mathlib.Core.Path.{_≡_}
 use Prim.Native.Nat.{ℕ, _/_}
-use Rattle.cutter_ground.specs.Cells.{CW}
-use Rattle.cutter_border.specs.Walks.{claimed, Beside}
+use Rattle.cutter_ground.specs.Cells.{CW, place}
+use Rattle.cutter_border.specs.Walks.{claimedCell, Beside}
 use Rattle.cutter_border.specs.Nearest.{Unreached, Nearest}
 use Rattle.cutter_state.specs.declared.Cutter.{Cutter}
-use Rattle.cutter_state.specs.State.{place}
+use Rattle.cutter_state.specs.State.{lineIn}
 use Rattle.cutter_state.specs.WellFormed.{WellFormed}
 use Rattle.cutter_rules.specs.Step.{playerCell, target, stepped, respawned}
-use Rattle.cutter_keeps.specs.Kept.{lineIn}
 use Rattle.cutter_keeps.specs.Steps.{closes}
 
 -- from the claimed cell a, with no line on the map, the player has gone to where s has it: the nearest cell, of which there is one; a itself,
 -- if a is beside black or no such cell can be reached
 pub record Reappears (a : ℕ) (s : Cutter) : Type 0 where
-  pub start : claimed (s .grid) a ≡ true
+  pub start : claimedCell (s .grid) a ≡ true
   pub clear : lineIn s ≡ 0
   pub nearest : Nearest (s .grid) a (playerCell s)
   pub only : (b : ℕ) → Nearest (s .grid) a b → b ≡ playerCell s

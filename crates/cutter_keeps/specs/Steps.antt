@@ -4,15 +4,14 @@ use mathlib.Core.Path.{_≡_}
 use Prim.Native.Nat.{ℕ, _+_}
 use lib.Dec.{ltb}
 use Rattle.found.specs.First.{nobody}
-use Rattle.cutter_ground.specs.Cells.{CN, blackAt}
+use Rattle.cutter_ground.specs.Cells.{CN, blackAt, claimedAt}
 use Rattle.cutter_closing.specs.Counted.{MAX-COMP}
 use Rattle.cutter_closing.specs.Account.{takenOf, goneOf}
 use Rattle.cutter_state.specs.declared.Cutter.{Cutter}
-use Rattle.cutter_state.specs.State.{creatures}
+use Rattle.cutter_state.specs.State.{creatures, claimedIn, lineIn}
 use Rattle.cutter_state.specs.WellFormed.{WellFormed}
-use Rattle.cutter_rules.specs.Tick.{creatureAt}
-use Rattle.cutter_rules.specs.Step.{noDirection, target, claimedAt}
-use Rattle.cutter_keeps.specs.Kept.{claimedIn, lineIn, Kept, Laid, Closed}
+use Rattle.cutter_rules.specs.Step.{noDirection, target, creatureAt}
+use Rattle.cutter_keeps.specs.Kept.{Kept, Laid, Closed}
 
 -- the player has a direction, to a cell of the grid where no creature is
 unfoldable pub advances : Cutter → Bool

@@ -6,7 +6,7 @@ use native.Mathlib.Omega.{arith}
 use lib.IntN.{pos, negsuc}
 use Rattle.cutter_rules.specs.Level.{velocity}
 use Rattle.cutter_rules.proofs.Draws.{draws-length, draws-fit}
-use Rattle.cutter_level.specs.Draws.{DrawsAt, DrawsFor}
+use Rattle.cutter_level.specs.CodeDraws.{DrawsAt, DrawsFor}
 
 -- draws for n creatures have those of each
 pub draws-each : (draws : List ℕ) (n i : ℕ) → DrawsFor draws n → i < n → DrawsAt draws i

@@ -4,7 +4,7 @@ use lib.ListN.{length, replicate}
 use Rattle.laws.specs.Lists.{across}
 use Rattle.cutter_ground.specs.Cells.{CW, CH, CN, CB-BLACK}
 use Rattle.cutter_rules.specs.Level.{freshGrid}
-use Rattle.cutter_level.specs.Ring.{claimRow, claimColumn}
+use Rattle.cutter_level.specs.CodeRing.{claimRow, claimColumn}
 
 pub ring-claimed : across claimColumn CH 0 (across claimRow CW 0 (replicate CN CB-BLACK)) ≡ freshGrid
 unfolding claimRow claimColumn freshGrid

@@ -1,2 +1,2 @@
-pub mod Draws
-pub mod Ring
+pub mod CodeDraws
+pub mod CodeRing

@@ -4,10 +4,10 @@ ghost use mathlib.Core.Path.{_≡_};
 ghost use Prim.Native.Nat.{_+_, _*_, _<_, _≤_};
 ghost use lib.ListN.{length};
 ghost use Rattle.laws.specs.Lists.{across};
-ghost use Rattle.cutter_ground.specs.Cells.{CN, CW, CH, MAX-ENEMIES};
-ghost use Rattle.cutter_rules.specs.Level.{DRAWS, freshGrid, creaturesOf, drawAt, inRange, drawsOk, velocity, drawn, drawnEnemies, atStart, freshLevel};
-ghost use Rattle.cutter_level.specs.Draws.{FourAt, DrawsAt, DrawsFor};
-ghost use Rattle.cutter_level.specs.Ring.{claimRow, claimColumn};
+ghost use Rattle.cutter_ground.specs.Cells.{CN, CW, CH};
+ghost use Rattle.cutter_rules.specs.Level.{DRAWS-EACH, freshGrid, creaturesOf, drawAt, inRange, drawsOk, velocity, drawnMover, drawnEnemies, atStart, freshLevel};
+ghost use Rattle.cutter_level.specs.CodeDraws.{FourAt, DrawsAt, DrawsFor};
+ghost use Rattle.cutter_level.specs.CodeRing.{claimRow, claimColumn};
 use cutter_ground::CB_BLACK;
 use cutter_ground::CB_FILLED;
 use cutter_ground::CH;
@@ -16,9 +16,10 @@ use cutter_ground::CW;
 use cutter_ground::MAX_ENEMIES;
 use cutter_ground::Mover;
 use cutter_state::Cutter;
+ghost use Rattle.cutter_ground.specs.Movers.{MAX-ENEMIES};
 
 // The draws of one creature: place across, place down, velocity across, velocity down.
-pub const DRAWS: usize = 4;
+pub const DRAWS_EACH: usize = 4;
 
 fn claim_rows(grid: &mut [u8; CN])
     requires { ⌜ length (now grid) ≡ CN ⌝ }
@@ -63,10 +64,10 @@ pub fn creatures_of(level: u32) -> usize
 
 // The draw `k` of the creature `i`.
 fn draw_at(draws: &[u8], i: usize, k: usize) -> u8
-    requires { ⌜ DRAWS * i + k < length (now draws) ⌝ }
+    requires { ⌜ DRAWS-EACH * i + k < length (now draws) ⌝ }
     ensures { λ r. ⌜ r ≡ drawAt (now (draws .entry)) i k ⌝ }
 {
-    draws[DRAWS * i + k]
+    draws[DRAWS_EACH * i + k]
 }
 
 // The draws of the creature `i` are in range.
@@ -84,7 +85,7 @@ pub fn draws_ok(draws: &[u8], n: usize) -> bool
     requires { ⌜ n ≤ MAX-ENEMIES ⌝ }
     ensures { λ r. ⌜ r ≡ drawsOk (now (draws .entry)) n ⌝ }
 {
-    if draws.len() != DRAWS * n {
+    if draws.len() != DRAWS_EACH * n {
         return false;
     }
     let mut ok = true;
@@ -104,7 +105,7 @@ fn velocity_of(draw: u8) -> i8
 
 fn drawn_mover(draws: &[u8], i: usize) -> Mover
     requires { ⌜ DrawsAt (now draws) i ⌝ }
-    ensures { λ r. ⌜ r ≡ drawn (now (draws .entry)) i ⌝ }
+    ensures { λ r. ⌜ r ≡ drawnMover (now (draws .entry)) i ⌝ }
 {
     let vx = velocity_of(draw_at(draws, i, 2));
     let vy = velocity_of(draw_at(draws, i, 3));

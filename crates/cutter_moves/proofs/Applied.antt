@@ -14,7 +14,7 @@ use Rattle.cutter_state.specs.declared.Cutter.{Cutter}
 use Rattle.cutter_state.specs.Change.{withGrid, withTrailing, killed}
 use Rattle.cutter_rules.specs.Step.{playerCell, entered, laid, stopped, stepped}
 use Rattle.cutter_moves.specs.declared.player.Step.{Step}
-use Rattle.cutter_moves.specs.Steps.{playing, staying, laying, closedAt, applied, does, Plays, SteppedOn}
+use Rattle.cutter_moves.specs.CodeSteps.{playing, staying, laying, closedAt, applied, does, Plays, SteppedOn}
 
 -- the same with one thing changed
 abbrev pub dying : Step → Step

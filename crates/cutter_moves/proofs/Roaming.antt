@@ -13,17 +13,18 @@ use borrow.Author.Tests.{eqb-true}
 use Rattle.laws.specs.Lists.{all, any}
 use Rattle.laws.proofs.Choice.{and-left, and-right, and-three}
 use Rattle.laws.proofs.Lists.{getD-default, drop-one, taken-one, taken-rest, taken-end, any-more, any-holds, any-end}
-use Rattle.cutter_ground.specs.Cells.{CN, CB-BLACK, CB-FILLED, CB-TRAIL, cellAt, cellOf}
+use Rattle.cutter_ground.specs.Cells.{CN, CB-BLACK, CB-FILLED, CB-TRAIL, cellAt}
 use Rattle.cutter_ground.specs.declared.Mover.{Mover}
 use Rattle.cutter_state.specs.State.{holdsAt}
 use Rattle.cutter_state.specs.WellFormed.{rowsFilled, columnsFilled, isUnit, moverOk}
 use Rattle.cutter_state.proofs.Ring.{holds-inside, holds-code, inside-ring}
 use Rattle.cutter_rules.specs.Ahead.{sideOf, verticalOf, diagonalOf}
-use Rattle.cutter_rules.specs.Tick.{lineAhead, flipped, turned, gone, bounced, ticked}
+use Rattle.cutter_rules.specs.Tick.{lineAhead, flipped, turned, goneTo, bounced, moversStepped}
 use Rattle.cutter_moves.specs.declared.enemies.Moved.{Moved}
 use Rattle.cutter_moves.specs.declared.enemies.Roamed.{Roamed}
 use Rattle.cutter_moves.specs.declared.enemies.View.{View}
-use Rattle.cutter_moves.specs.Moves.{Roams, Ticks, viewOf, moverAt, roamOf, tickOf}
+use Rattle.cutter_moves.specs.CodeMoves.{Roams, Ticks, viewOf, moverAt, roamOf, tickOf}
+use Rattle.cutter_ground.specs.Movers.{placeOf}
 
 view-same : {a b : ℕ} {s t u v w x : ℕ} → a ≡ b → s ≡ t → u ≡ v → w ≡ x → _≡_ {A = View} (record { to = a; side = s; vertical = u; diagonal = w }) (record { to = b; side = t; vertical = v; diagonal = x })
 view-same p q r o = cc
@@ -33,22 +34,22 @@ roamed-same p = cc
 
 module _ (g : List ℕ) (e : Mover) where
   -- the three cells read on the grid are what the creature sees
-  pub seen : length g ≡ CN → (b a t : ℕ) → b ≡ sideOf (e .vx) (cellOf e) → b < CN → a ≡ verticalOf (e .vy) (cellOf e) → a < CN → t ≡ sideOf (e .vx) a → t < CN → record { to = t; side = getD g b 0; vertical = getD g a 0; diagonal = getD g t 0 } ≡ viewOf g e
+  pub seen : length g ≡ CN → (b a t : ℕ) → b ≡ sideOf (e .vx) (placeOf e) → b < CN → a ≡ verticalOf (e .vy) (placeOf e) → a < CN → t ≡ sideOf (e .vx) a → t < CN → record { to = t; side = getD g b 0; vertical = getD g a 0; diagonal = getD g t 0 } ≡ viewOf g e
   seen l b a t p h q k r m =
       let read : (i : ℕ) → i < CN → getD g i 0 ≡ cellAt g i = λ i h. getD-default g i 0 CB-FILLED (omega arith) in
-      let o : t ≡ diagonalOf (e .vx) (e .vy) (cellOf e) = r ∙ ap (sideOf (e .vx)) q in
+      let o : t ≡ diagonalOf (e .vx) (e .vy) (placeOf e) = r ∙ ap (sideOf (e .vx)) q in
       view-same o (read b h ∙ ap (cellAt g) p) (read a k ∙ ap (cellAt g) q) (read t m ∙ ap (cellAt g) o)
 
   module _ (v : View) (s : v ≡ viewOf g e) where
     -- black in all three: straight on, and no line
     clear-on : (eqb (v .side) CB-BLACK && eqb (v .vertical) CB-BLACK && eqb (v .diagonal) CB-BLACK) ≡ true → (lineAhead g e ≡ false) × (moverAt (v .to) (e .vx) (e .vy) ≡ bounced g e)
-    unfolding lineAhead bounced turned gone
+    unfolding lineAhead bounced turned goneTo
     clear-on c =
         let t = and-three (eqb (v .side) CB-BLACK) (eqb (v .vertical) CB-BLACK) (eqb (v .diagonal) CB-BLACK) c in
-        let a : eqb (cellAt g (sideOf (e .vx) (cellOf e))) CB-BLACK ≡ true = ap (λ (w : View). eqb (w .side) CB-BLACK) (sym s) ∙ t .0 in
-        let b : eqb (cellAt g (verticalOf (e .vy) (cellOf e))) CB-BLACK ≡ true = ap (λ (w : View). eqb (w .vertical) CB-BLACK) (sym s) ∙ t .1 in
-        let d : eqb (cellAt g (diagonalOf (e .vx) (e .vy) (cellOf e))) CB-BLACK ≡ true = ap (λ (w : View). eqb (w .diagonal) CB-BLACK) (sym s) ∙ t .2 in (
-          simp (eqb-true (cellAt g (sideOf (e .vx) (cellOf e))) CB-BLACK a, eqb-true (cellAt g (verticalOf (e .vy) (cellOf e))) CB-BLACK b, eqb-true (cellAt g (diagonalOf (e .vx) (e .vy) (cellOf e))) CB-BLACK d),
+        let a : eqb (cellAt g (sideOf (e .vx) (placeOf e))) CB-BLACK ≡ true = ap (λ (w : View). eqb (w .side) CB-BLACK) (sym s) ∙ t .0 in
+        let b : eqb (cellAt g (verticalOf (e .vy) (placeOf e))) CB-BLACK ≡ true = ap (λ (w : View). eqb (w .vertical) CB-BLACK) (sym s) ∙ t .1 in
+        let d : eqb (cellAt g (diagonalOf (e .vx) (e .vy) (placeOf e))) CB-BLACK ≡ true = ap (λ (w : View). eqb (w .diagonal) CB-BLACK) (sym s) ∙ t .2 in (
+          simp (eqb-true (cellAt g (sideOf (e .vx) (placeOf e))) CB-BLACK a, eqb-true (cellAt g (verticalOf (e .vy) (placeOf e))) CB-BLACK b, eqb-true (cellAt g (diagonalOf (e .vx) (e .vy) (placeOf e))) CB-BLACK d),
           ap (λ (w : View). moverAt (w .to) (e .vx) (e .vy)) s ∙ simp (a, b, d),
         )
 
@@ -57,9 +58,9 @@ module _ (g : List ℕ) (e : Mover) where
     line-seen = ap (λ (w : View). eqb (w .side) CB-TRAIL || eqb (w .vertical) CB-TRAIL || eqb (w .diagonal) CB-TRAIL) s
 
     -- velocity parts turned by what is ahead
-    pub bounce-seen : gone g e (cond (eqb (v .side) CB-BLACK) (e .vx) (flipped (e .vx))) (cond (eqb (v .vertical) CB-BLACK) (e .vy) (flipped (e .vy))) ≡ bounced g e
+    pub bounce-seen : goneTo g e (cond (eqb (v .side) CB-BLACK) (e .vx) (flipped (e .vx))) (cond (eqb (v .vertical) CB-BLACK) (e .vy) (flipped (e .vy))) ≡ bounced g e
     unfolding bounced turned
-    bounce-seen = ap (λ (w : View). gone g e (cond (eqb (w .side) CB-BLACK) (e .vx) (flipped (e .vx))) (cond (eqb (w .vertical) CB-BLACK) (e .vy) (flipped (e .vy)))) s
+    bounce-seen = ap (λ (w : View). goneTo g e (cond (eqb (w .side) CB-BLACK) (e .vx) (flipped (e .vx))) (cond (eqb (w .vertical) CB-BLACK) (e .vy) (flipped (e .vy)))) s
 
     -- the three ways of a move
     pub roam-clear : (eqb (v .side) CB-BLACK && eqb (v .vertical) CB-BLACK && eqb (v .diagonal) CB-BLACK) ≡ true → (m : Mover) → m ≡ moverAt (v .to) (e .vx) (e .vy) → record { met = false; to = m } ≡ roamOf g e
@@ -99,7 +100,7 @@ pub record Going (g : List ℕ) (l : List Mover) (n : ℕ) (out : List Mover) (i
   -- those from i on have not moved
   pub rest : drop i out ≡ drop i l
   -- with what the rest of them do it is the answer
-  pub done : take i out ++ (ticked g (drop i (take n l)) ++ drop n l) ≡ ticked g (take n l) ++ drop n l
+  pub done : take i out ++ (moversStepped g (drop i (take n l)) ++ drop n l) ≡ moversStepped g (take n l) ++ drop n l
   -- they are on black
   pub black : all (moverOk g) (drop i (take n l)) ≡ true
   -- no line was ahead
@@ -134,7 +135,7 @@ module _ (g : List ℕ) (l : List Mover) (n : ℕ) (out : List Mover) (i : ℕ) 
   going-roams t k = roams g (getD out i d) (t .cells) (t .rows) (t .columns) (and-left (moverOk g (getD out i d)) (all (moverOk g) (drop (i + 1) (take n l))) (still-ok k))
 
   gone-more : i < n → lineAhead g (getD out i d) ≡ false → Going g l n (set out i (bounced g (getD out i d))) (i + 1)
-  unfolding ticked
+  unfolding moversStepped
   gone-more k t =
       let e = next-taken k in
       let later = next k .1 in
@@ -149,10 +150,10 @@ module _ (g : List ℕ) (l : List Mover) (n : ℕ) (out : List Mover) (i : ℕ) 
       }
 
   gone-dead : i < n → lineAhead g (getD out i d) ≡ true → record { enemies = out; dead = true } ≡ tickOf g l n
-  unfolding ticked tickOf
+  unfolding moversStepped tickOf
   gone-dead k t =
       let e = next-taken k in
-      let r : ticked g (drop i (take n l)) ≡ drop i (take n l) = rw (e, t) in
+      let r : moversStepped g (drop i (take n l)) ≡ drop i (take n l) = rw (e, t) in
       let p = rw (r, taken-rest n i l (s .within), ← s .rest, take-append-drop i out) at (s .done) in
       moved-same out _ true _ p (any-holds (lineAhead g) (take n l) i e (s .safe) t)
 
@@ -172,10 +173,10 @@ module _ (g : List ℕ) (l : List Mover) (n : ℕ) (out : List Mover) (i : ℕ) 
 
 module _ (g : List ℕ) (l : List Mover) (n : ℕ) (out : List Mover) (i : ℕ) (s : Going g l n out i) (h : n ≤ length l) where
   pub going-end : n ≤ i → record { enemies = out; dead = false } ≡ tickOf g l n
-  unfolding ticked tickOf
+  unfolding moversStepped tickOf
   going-end k =
       let e = taken-end n l i k in
       let q : i ≡ n = omega (arith, s) in
       let r : out ≡ take i out ++ drop n l = sym (take-append-drop i out) ∙ ap (λ (m : List Mover). take i out ++ m) (s .rest ∙ ap (λ (k : ℕ). drop k l) q) in
-      let p : take i out ++ drop n l ≡ ticked g (take n l) ++ drop n l = rw e at (s .done) in
+      let p : take i out ++ drop n l ≡ moversStepped g (take n l) ++ drop n l = rw e at (s .done) in
       moved-same out _ false _ (r ∙ p) (any-end (lineAhead g) (take n l) i e (s .safe))

@@ -10,28 +10,29 @@ use lib.ListN.{length}
 use borrow.Author.Tests.{lt-ltb, eqb-true}
 use Rattle.laws.proofs.Lists.{all-weaken}
 use Rattle.cutter_joined.proofs.Joined.{black-in}
-use Rattle.cutter_ground.specs.Cells.{CW, CN, CB-BLACK, cellAt, cellOf}
+use Rattle.cutter_ground.specs.Cells.{CW, CN, CB-BLACK, cellAt, place}
 use Rattle.cutter_ground.specs.declared.Mover.{Mover}
 use Rattle.cutter_closing.specs.Counted.{MAX-COMP}
 use Rattle.cutter_closing.specs.Closing.{closeCut}
 use Rattle.cutter_closing.specs.declared.Cut.{Cut}
 use Rattle.cutter_closing.proofs.Sums.{length-after}
-use Rattle.cutter_capture.specs.Steps.{inside, Closable, Closes}
-use Rattle.cutter_border.specs.Border.{toBorder}
-use Rattle.cutter_border.specs.Tables.{Standing}
+use Rattle.cutter_capture.specs.CodeSteps.{inside, Closable, Closes}
+use Rattle.cutter_border.specs.CodeBorder.{toBorder}
+use Rattle.cutter_border.specs.CodeTables.{Standing}
 use Rattle.cutter_border.proofs.Nearest.{nearest, walk-at}
 use Rattle.cutter_state.specs.declared.Cutter.{Cutter}
-use Rattle.cutter_state.specs.State.{place, creatures}
+use Rattle.cutter_state.specs.State.{creatures}
 use Rattle.cutter_state.specs.Change.{withGrid, withCreatures, withTrailing}
 use Rattle.cutter_state.specs.WellFormed.{moverOk, footing, WellFormed}
 use Rattle.cutter_state.proofs.Ring.{holds-inside}
 use Rattle.cutter_rules.specs.Step.{unitX, unitY, entered, cutClosed, atBorder, stepped}
 use Rattle.cutter_rules.proofs.Apart.{mover-black}
 use Rattle.cutter_rules.proofs.Step.{place-cell}
-use Rattle.cutter_moves.specs.Moves.{OnGrid}
+use Rattle.cutter_moves.specs.CodeMoves.{OnGrid}
 use Rattle.cutter_moves.specs.declared.player.Step.{Step}
-use Rattle.cutter_moves.specs.Steps.{staying, closedAt, SteppedOn}
+use Rattle.cutter_moves.specs.CodeSteps.{staying, closedAt, SteppedOn}
 use Rattle.cutter_moves.proofs.Applied.{same-ground, shut-made}
+use Rattle.cutter_ground.specs.Movers.{placeOf}
 
 -- past 2 the unit step is left
 pub left-else : (d : ℕ) → (d ≡ 0 → ⊥) → (d ≡ 1 → ⊥) → (d ≡ 2 → ⊥) → (unitX d ≡ negsuc 0) × (unitY d ≡ pos 0)
@@ -43,7 +44,7 @@ left-else (suc (suc (suc d))) a b c = (refl, refl)
 
 -- a creature on black is on the grid
 inside-grid : (g : List ℕ) (e : Mover) → length g ≡ CN → moverOk g e ≡ true → inside e ≡ true
-inside-grid g e h m = lt-ltb (cellOf e) CN (omega (arith, black-in g (cellOf e) (eqb-true (cellAt g (cellOf e)) CB-BLACK (mover-black g e m))))
+inside-grid g e h m = lt-ltb (placeOf e) CN (omega (arith, black-in g (placeOf e) (eqb-true (cellAt g (placeOf e)) CB-BLACK (mover-black g e m))))
 
 -- a well-formed state can be closed
 closable : (c : Cutter) → WellFormed c → Closable (c .enemies) (c .count)

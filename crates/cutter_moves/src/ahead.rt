@@ -3,7 +3,7 @@ ghost use mathlib.Core.Path.{_≡_};
 ghost use Prim.Native.Nat.{_<_, _%_};
 ghost use Rattle.cutter_ground.specs.Cells.{CW, CN};
 ghost use Rattle.cutter_rules.specs.Ahead.{sideOf, verticalOf, diagonalOf};
-ghost use Rattle.cutter_moves.specs.Moves.{Across, Along};
+ghost use Rattle.cutter_moves.specs.CodeMoves.{Across, Along};
 use cutter_ground::CW;
 use cutter_ground::down_of;
 use cutter_ground::left_of;

@@ -5,10 +5,10 @@ ghost use Prim.Native.Nat.{_<_, _≤_};
 ghost use lib.Dec.{eqb};
 ghost use lib.ListN.{take, drop};
 ghost use Rattle.laws.specs.Lists as L;
-ghost use Rattle.cutter_ground.specs.Cells.{CN, MAX-ENEMIES, CB-BLACK, CB-TRAIL};
+ghost use Rattle.cutter_ground.specs.Cells.{CN, CB-BLACK, CB-TRAIL};
 ghost use Rattle.cutter_state.specs.WellFormed.{WellFormed};
-ghost use Rattle.cutter_rules.specs.Tick.{isAt, creatureAt, flipped, gone, bounced, enemiesStepped};
-ghost use Rattle.cutter_moves.specs.Moves.{Roams, Bounces, Ticks, viewOf, moverAt, roamOf, tickOf};
+ghost use Rattle.cutter_rules.specs.Tick.{flipped, goneTo, bounced, enemiesStepped};
+ghost use Rattle.cutter_moves.specs.CodeMoves.{Roams, Bounces, Ticks, viewOf, moverAt, roamOf, tickOf};
 use crate::ahead::side_in;
 use crate::ahead::vertical_in;
 use cutter_ground::CB_BLACK;
@@ -20,6 +20,8 @@ use cutter_ground::Mover;
 use cutter_ground::cell_of;
 use cutter_state::Cutter;
 use found::Found;
+ghost use Rattle.cutter_rules.specs.Step.{isAt, creatureAt};
+ghost use Rattle.cutter_ground.specs.Movers.{MAX-ENEMIES};
 
 // How many of the first `count` creatures are at a cell, from number `from` on.
 fn number_from(enemies: [Mover; MAX_ENEMIES], from: usize, count: usize, at: usize) -> usize
@@ -120,7 +122,7 @@ fn put(to: usize, vx: i8, vy: i8) -> Mover
 // Cornered: keep the velocity, stay put this tick.
 fn go(grid: &[u8; CN], e: Mover, vx: i8, vy: i8) -> Mover
     requires { ⌜ Roams (now grid) e vx vy ⌝ }
-    ensures { λ r. ⌜ r ≡ gone (now (grid .entry)) e vx vy ⌝ }
+    ensures { λ r. ⌜ r ≡ goneTo (now (grid .entry)) e vx vy ⌝ }
 {
     let above = vertical_in(cell_of(e), vy);
     let to = side_in(above, vx);

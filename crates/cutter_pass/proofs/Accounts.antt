@@ -10,7 +10,7 @@ use borrow.Author.Tests.{not-true}
 use Rattle.laws.proofs.Choice.{cond-both, bool-cases, and-left, and-right}
 use Rattle.refusal.specs.Refusal.{NONE}
 use Rattle.pace.specs.declared.Ticks.{Ticks}
-use Rattle.pace.specs.Pace.{ticked}
+use Rattle.pace.specs.Pace.{bothTicks}
 use Rattle.cutter_state.specs.declared.Cutter.{Cutter}
 use Rattle.cutter_state.specs.Change.{withLevel, withWon}
 use Rattle.cutter_state.specs.WellFormed.{WellFormed}
@@ -20,14 +20,15 @@ use Rattle.cutter_keeps.proofs.Changes.{kept-self}
 use Rattle.cutter_keeps.proofs.Accounts.{kept-accounts, erased-accounts, accounts-then}
 use Rattle.cutter_keeps.proofs.Level.{level-fresh}
 use Rattle.cutter_keeps.proofs.Respawn.{respawn-erased}
-use Rattle.cutter_pass.specs.declared.Played.{Played}
 use Rattle.cutter_pass.specs.declared.CutterTurn.{CutterTurn}
-use Rattle.cutter_pass.specs.Pass.{CUT-MOVE-CYCLES, CUT-ENEMY-CYCLES, levelDue, passRefusal, hurt, nextLevel, played, moved, paced, afterDeath, afterKeys, passOn, NextLevel}
+use Rattle.cutter_pass.specs.Pass.{CUT-MOVE-CYCLES, CUT-ENEMY-CYCLES, levelDue, passRefusal, hurt, nextLevel, played, stepScored, paced, afterDeath, afterKeys, passOn}
 use Rattle.cutter_pass.specs.Accounts.{passSteps, passClaims, passLoses}
 use Rattle.cutter_pass.proofs.Refused.{pass-state, pass-level}
 use Rattle.cutter_pass.proofs.Keys.{keys-kept}
 use Rattle.cutter_pass.proofs.Kept.{accounts-kept, kept-accounted, hurt-kept, ticked-kept, moved-accounts}
 use Rattle.cutter_pass.proofs.Answers.{on-dead, on-level, on-keys}
+use Rattle.cutter_pass.specs.CodePass.{NextLevel}
+use Rattle.controls.specs.Keys.{Played}
 
 module _ (c : Cutter) (w : WellFormed c) where
   -- a respawn closes nothing, and nor does a round that is over
@@ -42,22 +43,22 @@ module _ (c : Cutter) (w : WellFormed c) where
   abbrev P : Cutter → Bool → Type 0
   P s steps = Accounts c s (cond steps (stepClaims c) 0) (cond steps (stepLoses c) 0)
 
-  moved-if : (due : Bool) → P (cond due (moved c) c) due
+  moved-if : (due : Bool) → P (cond due (stepScored c) c) due
   moved-if true = moved-accounts c w
   moved-if false = kept-accounts (kept-self w)
 
   paced-accounts : (due : Ticks) → P (paced c due) (due .one)
-  paced-accounts due = let k = moved-if (due .one) in accounts-kept k (ticked-kept (cond (due .one) (moved c) c) (k .formed) (due .two))
+  paced-accounts due = let k = moved-if (due .one) in accounts-kept k (ticked-kept (cond (due .one) (stepScored c) c) (k .formed) (due .two))
 
 module _ (first second : ℕ) (c : Cutter) (keys draws : List ℕ) (time : ℕ) where
   abbrev t : CutterTurn
   t = passOn first second c keys draws time
 
-  abbrev p : Played
+  abbrev p : Played Cutter
   p = played c keys
 
   abbrev due : Ticks
-  due = ticked time first second CUT-MOVE-CYCLES CUT-ENEMY-CYCLES
+  due = bothTicks time first second CUT-MOVE-CYCLES CUT-ENEMY-CYCLES
 
   -- quit: no ticks, so no closing
   keyed-accounts : WellFormed c

@@ -7,20 +7,20 @@ use Rattle.refusal.specs.Refusal.{NONE}
 use Rattle.refusal.proofs.Calls.{refused-by, answered-by}
 use Rattle.answer.specs.declared.Answer.the-variants.{GoingOn, Quit}
 use Rattle.pace.specs.declared.Ticks.{Ticks}
-use Rattle.pace.specs.Pace.{ticked}
+use Rattle.pace.specs.Pace.{bothTicks}
 use Rattle.cutter_state.specs.declared.Cutter.{Cutter}
 use Rattle.cutter_rules.specs.Tick.{enemiesStepped}
-use Rattle.cutter_pass.specs.declared.Played.{Played}
 use Rattle.cutter_pass.specs.declared.CutterTurn.{CutterTurn}
-use Rattle.cutter_pass.specs.Pass.{CUT-MOVE-CYCLES, CUT-ENEMY-CYCLES, passRefusal, nextLevel, played, moved, still, afterDeath, afterKeys, passOn, passAt}
+use Rattle.cutter_pass.specs.Pass.{CUT-MOVE-CYCLES, CUT-ENEMY-CYCLES, passRefusal, nextLevel, played, stepScored, still, afterDeath, afterKeys, passOn, passAt}
+use Rattle.controls.specs.Keys.{Played}
 
-module _ (first second time : ℕ) (p : Played) where
+module _ (first second time : ℕ) (p : Played Cutter) where
   pub after-quit : p .quit ≡ true → still first second NONE Quit (p .game) ≡ afterKeys first second time p
   unfolding afterKeys
   after-quit k = rw k
 
-  pub after-ticks : p .quit ≡ false → {due : Ticks} → due ≡ ticked time first second CUT-MOVE-CYCLES CUT-ENEMY-CYCLES
-      → {s : Cutter} → s ≡ cond (due .one) (moved (p .game)) (p .game) → {game : Cutter} → game ≡ cond (due .two) (enemiesStepped s) s
+  pub after-ticks : p .quit ≡ false → {due : Ticks} → due ≡ bothTicks time first second CUT-MOVE-CYCLES CUT-ENEMY-CYCLES
+      → {s : Cutter} → s ≡ cond (due .one) (stepScored (p .game)) (p .game) → {game : Cutter} → game ≡ cond (due .two) (enemiesStepped s) s
       → still (due .first) (due .second) NONE GoingOn game ≡ afterKeys first second time p
   unfolding afterKeys
   after-ticks k t f g = rw (k, g, f, t)

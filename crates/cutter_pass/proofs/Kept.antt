@@ -11,12 +11,13 @@ use Rattle.cutter_state.specs.Change.{withWon}
 use Rattle.cutter_state.specs.WellFormed.{WellFormed}
 use Rattle.cutter_rules.specs.Step.{stepped}
 use Rattle.cutter_rules.specs.Tick.{enemiesStepped}
-use Rattle.cutter_keeps.specs.Kept.{blackIn, Kept}
+use Rattle.cutter_keeps.specs.Kept.{Kept}
 use Rattle.cutter_keeps.specs.Steps.{stepClaims, stepLoses, Accounts}
 use Rattle.cutter_keeps.proofs.Changes.{kept-self, kept-lives, kept-dead, kept-won}
 use Rattle.cutter_keeps.proofs.Tick.{tick-kept}
 use Rattle.cutter_keeps.proofs.Accounts.{step-accounts}
-use Rattle.cutter_pass.specs.Pass.{CLEAR-BELOW, hurt, scored, moved}
+use Rattle.cutter_pass.specs.Pass.{CLEAR-BELOW, hurt, scored, stepScored}
+use Rattle.cutter_state.specs.State.{blackIn}
 
 -- a life less is never below 0; black at 465 does not win, and 464 does
 module _ (c : Cutter) where
@@ -51,12 +52,12 @@ module _ (c : Cutter) (w : WellFormed c) where
   ticked-kept due = cond-both (Kept c) due _ _ (λ _. tick-kept c w) (λ _. kept-self w)
 
 -- black below 465 after a step wins, whether or not it closed a cut
-pub step-wins : (c : Cutter) → blackIn (stepped c) < CLEAR-BELOW → moved c .«won_level» ≡ true
+pub step-wins : (c : Cutter) → blackIn (stepped c) < CLEAR-BELOW → stepScored c .«won_level» ≡ true
 unfolding scored
 step-wins c h = rw (lt-ltb (blackIn (stepped c)) CLEAR-BELOW h)
 
-pub moved-accounts : (c : Cutter) → WellFormed c → Accounts c (moved c) (stepClaims c) (stepLoses c)
+pub moved-accounts : (c : Cutter) → WellFormed c → Accounts c (stepScored c) (stepClaims c) (stepLoses c)
 moved-accounts c w = let k = step-accounts c w in accounts-kept k (scored-kept (stepped c) (k .formed))
 
-pub moved-formed : (c : Cutter) (due : Bool) → WellFormed c → WellFormed (cond due (moved c) c)
-moved-formed c due w = cond-both WellFormed due (moved c) c (λ _. moved-accounts c w .formed) (λ _. w)
+pub moved-formed : (c : Cutter) (due : Bool) → WellFormed c → WellFormed (cond due (stepScored c) c)
+moved-formed c due w = cond-both WellFormed due (stepScored c) c (λ _. moved-accounts c w .formed) (λ _. w)

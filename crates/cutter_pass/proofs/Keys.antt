@@ -5,15 +5,14 @@ use lib.Dec.{eqb}
 use Rattle.laws.proofs.Choice.{cond-both}
 use Rattle.cutter_state.specs.declared.Cutter.{Cutter}
 use Rattle.cutter_state.specs.WellFormed.{WellFormed}
-use Rattle.cutter_rules.specs.Step.{UP, RIGHT, DOWN, LEFT}
 use Rattle.cutter_keeps.specs.Kept.{Kept}
 use Rattle.cutter_keeps.proofs.Changes.{kept-self, kept-then}
 use Rattle.cutter_keeps.proofs.Direction.{direction-kept}
-use Rattle.cutter_pass.specs.Pass.{KEY-QUIT, keyed, played}
-use Rattle.cutter_pass.specs.declared.Played.{Played}
+use Rattle.cutter_pass.specs.Pass.{keyed, played}
+use Rattle.controls.specs.Keys.{UP, RIGHT, DOWN, LEFT, KEY-QUIT, Played, keyedBy, playedBy}
 
 pub key-kept : (c : Cutter) (key : ℕ) → WellFormed c → Kept c (keyed c key)
-unfolding keyed
+unfolding keyedBy
 key-kept c key w =
     cond-both (Kept c) (eqb key 5) _ _ (λ _. direction-kept c UP w)
     (λ _. cond-both (Kept c) (eqb key 8) _ _ (λ _. direction-kept c DOWN w)
@@ -21,8 +20,8 @@ key-kept c key w =
     (λ _. cond-both (Kept c) (eqb key 9) _ _ (λ _. direction-kept c RIGHT w) (λ _. kept-self w))))
 
 pub keys-kept : (c : Cutter) (keys : List ℕ) → WellFormed c → Kept c (played c keys .game)
-unfolding played
+unfolding playedBy
 keys-kept c [] w = kept-self w
 keys-kept c (key ∷ keys) w =
-    cond-both (λ (p : Played). Kept c (p .game)) (eqb key KEY-QUIT) _ _ (λ _. kept-self w)
+    cond-both (λ (p : Played Cutter). Kept c (p .game)) (eqb key KEY-QUIT) _ _ (λ _. kept-self w)
     (λ _. let k = key-kept c key w in kept-then k (keys-kept (keyed c key) keys (k .formed)))

@@ -13,7 +13,8 @@ use Rattle.cutter_state.specs.declared.Cutter.{Cutter}
 use Rattle.cutter_state.specs.WellFormed.{MAX-LEVEL, refusalOf, WellFormed}
 use Rattle.cutter_state.proofs.Facts.{accepted}
 use Rattle.cutter_rules.specs.Level.{creaturesOf, drawsOk}
-use Rattle.cutter_pass.specs.Pass.{levelDue, levelRefusal, passRefusal, NextLevel}
+use Rattle.cutter_pass.specs.Pass.{levelDue, levelRefusal, passRefusal}
+use Rattle.cutter_pass.specs.CodePass.{NextLevel}
 
 due-level : (c : Cutter) → c .dead ≡ false → c .«won_level» ≡ true → levelDue c ≡ true
 unfolding levelDue

@@ -1,8 +1,7 @@
 -- Document 01, 'One pass, and the pacing record': one turn of Block Cutter's loop, on the numbers of the record.
 use mathlib.Core.Bool.{Bool, true, false, cond, not, _&&_}
 use mathlib.Core.List.{List, [], _∷_}
-use mathlib.Core.Path.{_≡_}
-use Prim.Native.Nat.{ℕ, _+_, _-_, _*_, _/_, _<_}
+use Prim.Native.Nat.{ℕ, _+_, _-_, _*_, _/_}
 use lib.Dec.{eqb, ltb}
 use lib.ListN.{length}
 use Rattle.refusal.specs.Refusal.{NONE, DRAWS, LAST-LEVEL, unless, _then_, refusedOr}
@@ -10,16 +9,17 @@ use Rattle.answer.specs.declared.Answer.{Answer}
 use Rattle.answer.specs.Answer.{GOING-ON, OVER, QUIT, answerOf}
 use Rattle.pace.specs.declared.Pace.{Pace}
 use Rattle.pace.specs.declared.Ticks.{Ticks}
-use Rattle.pace.specs.Pace.{ticked}
+use Rattle.pace.specs.Pace.{bothTicks}
 use Rattle.cutter_state.specs.declared.Cutter.{Cutter}
 use Rattle.cutter_state.specs.Change.{withLevel, withLives, withDead, withWon}
 use Rattle.cutter_state.specs.WellFormed.{MAX-LEVEL, refusalOf}
 use Rattle.cutter_rules.specs.Level.{creaturesOf, drawsOk, freshLevel}
-use Rattle.cutter_rules.specs.Step.{UP, RIGHT, DOWN, LEFT, directed, stepped, respawned}
+use Rattle.cutter_rules.specs.Step.{directed, stepped, respawned}
 use Rattle.cutter_rules.specs.Tick.{enemiesStepped}
-use Rattle.cutter_keeps.specs.Kept.{INNER, blackIn}
-use Rattle.cutter_pass.specs.declared.Played.{Played}
 use Rattle.cutter_pass.specs.declared.CutterTurn.{CutterTurn}
+use Rattle.cutter_ground.specs.Cells.{INNER}
+use Rattle.cutter_state.specs.State.{blackIn}
+use Rattle.controls.specs.Keys.{Played, keyedBy, playedBy, UP, RIGHT, DOWN, LEFT}
 
 -- step 2,400,000, creatures 4,000,000
 abbrev pub CUT-MOVE-CYCLES : ℕ
@@ -34,9 +34,6 @@ CLEAR-BLACK-PCT = 25
 
 abbrev pub CLEAR-BELOW : ℕ
 CLEAR-BELOW = INNER * CLEAR-BLACK-PCT / 100
-
-abbrev pub KEY-QUIT : ℕ
-KEY-QUIT = 10
 
 -- ---- what is refused
 
@@ -67,18 +64,12 @@ nextLevel c draws = freshLevel (withLevel (withWon c false) (c .level + 1)) draw
 
 -- ---- keys
 
--- 5, 8, 7, 9 are up, down, left, right; others are ignored
-unfoldable pub keyed : Cutter → ℕ → Cutter
-keyed c key =
-    cond (eqb key 5) (directed c UP)
-    (cond (eqb key 8) (directed c DOWN)
-    (cond (eqb key 7) (directed c LEFT)
-    (cond (eqb key 9) (directed c RIGHT) c)))
+-- the keys of a pass: each that gives a direction sets it
+abbrev pub keyed : Cutter → ℕ → Cutter
+keyed c key = keyedBy directed c key
 
--- all keys in order; 10 quits at once, earlier keys standing
-unfoldable pub played : Cutter → List ℕ → Played
-played c [] = record { quit = false; game = c }
-played c (key ∷ keys) = cond (eqb key KEY-QUIT) (record { quit = true; game = c }) (played (keyed c key) keys)
+abbrev pub played : Cutter → List ℕ → Played Cutter
+played c keys = playedBy directed c keys
 
 -- ---- ticks
 
@@ -87,13 +78,13 @@ unfoldable pub scored : Cutter → Cutter
 scored c = cond (ltb (blackIn c) CLEAR-BELOW) (withWon c true) c
 
 -- after the step, and only then
-abbrev pub moved : Cutter → Cutter
-moved c = scored (stepped c)
+abbrev pub stepScored : Cutter → Cutter
+stepScored c = scored (stepped c)
 
 -- step if due; then creatures if due
 abbrev pub paced : Cutter → Ticks → Cutter
 paced c due =
-    let after : Cutter = cond (due .one) (moved c) c in
+    let after : Cutter = cond (due .one) (stepScored c) c in
     cond (due .two) (enemiesStepped after) after
 
 -- ---- the pass
@@ -108,9 +99,9 @@ module _ (first second : ℕ) where
   afterDeath c = cond (eqb (hurt c .lives) 0) (still NONE (answerOf OVER) (hurt c)) (still NONE (answerOf GOING-ON) (respawned (hurt c)))
 
   -- quit: no ticks; else both ticks of the reading
-  unfoldable pub afterKeys : ℕ → Played → CutterTurn
+  unfoldable pub afterKeys : ℕ → Played Cutter → CutterTurn
   afterKeys time p =
-      let due : Ticks = ticked time first second CUT-MOVE-CYCLES CUT-ENEMY-CYCLES in
+      let due : Ticks = bothTicks time first second CUT-MOVE-CYCLES CUT-ENEMY-CYCLES in
       cond (p .quit) (still NONE (answerOf QUIT) (p .game))
       (record { first = due .first; second = due .second; passed = record { refusal = NONE; answer = answerOf GOING-ON; game = paced (p .game) due } })
 
@@ -128,10 +119,3 @@ passAt c keys draws time first second =
 -- the record after
 abbrev pub marksOf : CutterTurn → Pace
 marksOf t = record { first = t .first; second = t .second }
-
--- ---- what the code is handed
-
--- a next level, and its draws
-pub record NextLevel (c : Cutter) (draws : List ℕ) : Type 0 where
-  pub below : c .level < MAX-LEVEL
-  pub fit : drawsOk draws (creaturesOf (c .level + 1)) ≡ true

@@ -1,8 +1,7 @@
 // One turn of Block Cutter's loop, as definitions (specs/), their laws and what a turn keeps (proofs/); here the words that they share with the
 // code.
 use answer::Answer;
-use cutter_ground::CH;
-use cutter_ground::CW;
+use cutter_ground::INNER;
 use cutter_state::Cutter;
 use refusal::Refusal;
 
@@ -11,23 +10,10 @@ pub const CUT_MOVE_CYCLES: u32 = 2_400_000;
 
 pub const CUT_ENEMY_CYCLES: u32 = 4_000_000;
 
-// The cells inside the ring.
-pub const INTERIOR: usize = (CW - 2) * (CH - 2);
-
-// The level is won once less than this percentage of them is black.
+// The level is won once less than this percentage of the cells inside the ring is black.
 pub const CLEAR_BLACK_PCT: usize = 25;
 
-pub const CLEAR_BELOW: usize = INTERIOR * CLEAR_BLACK_PCT / 100;
-
-pub const KEY_UP: u8 = 5;
-
-pub const KEY_DOWN: u8 = 8;
-
-pub const KEY_LEFT: u8 = 7;
-
-pub const KEY_RIGHT: u8 = 9;
-
-pub const KEY_QUIT: u8 = 10;
+pub const CLEAR_BELOW: usize = INNER * CLEAR_BLACK_PCT / 100;
 
 pub struct CutterPassed {
     pub refusal: Refusal,
@@ -40,10 +26,4 @@ pub struct CutterTurn {
     pub first: u32,
     pub second: u32,
     pub passed: CutterPassed,
-}
-
-// The state after the keys, and whether one of them quit.
-pub struct Played {
-    pub quit: bool,
-    pub game: Cutter,
 }

@@ -1,17 +1,13 @@
 -- Document 01, 'The frame': which pixel of Block Cutter's picture is lit.
 use mathlib.Core.Bool.{Bool, _||_, _&&_, not, xor}
 use mathlib.Core.List.{List}
-use mathlib.Core.Path.{_≡_}
 use Prim.Native.Nat.{ℕ, _+_, _*_, _/_}
 use lib.Dec.{eqb}
-use lib.ListN.{length}
 use Rattle.laws.specs.Lists.{any, allBelow}
-use Rattle.frame.specs.Frame.{FRAME-LEN}
-use Rattle.cutter_ground.specs.Cells.{CB-FILLED, CB-TRAIL, cellAt}
+use Rattle.cutter_ground.specs.Cells.{CB-FILLED, CB-TRAIL, cellAt, place}
 use Rattle.cutter_ground.specs.declared.Mover.{Mover}
 use Rattle.cutter_state.specs.declared.Cutter.{Cutter}
-use Rattle.cutter_state.specs.State.{place, creatures}
-use Rattle.cutter_state.specs.WellFormed.{WellFormed}
+use Rattle.cutter_state.specs.State.{creatures}
 
 -- the pixel (x₀, y₀)
 abbrev pub dotLit : ℕ → ℕ → ℕ → ℕ → Bool
@@ -40,8 +36,3 @@ noLife n x y = allBelow n (λ i. not (dotLit (2 + 3 * i) 0 x y))
 unfoldable pub cutLit : Cutter → ℕ → ℕ → Bool
 cutLit c x y =
     xor (groundLit (c .grid) x y || any (moverLit x y) (creatures c)) (cellLit (c .px) (c .py) x y) && noLife (c .lives) x y
-
--- what the picture needs of a state and a frame
-pub record Drawable (c : Cutter) (frame : List ℕ) : Type 0 where
-  pub formed : WellFormed c
-  pub whole : length frame ≡ FRAME-LEN

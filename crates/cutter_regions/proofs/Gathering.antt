@@ -11,11 +11,11 @@ use Rattle.laws.specs.Lists.{tally}
 use Rattle.laws.proofs.Choice.{same?, below?}
 use Rattle.laws.proofs.Counts.{tally-lose}
 use Rattle.cutter_ground.specs.Cells.{CN}
-use Rattle.cutter_ground.specs.Visit.{SEEN}
+use Rattle.cutter_ground.specs.CodeVisit.{SEEN}
 use Rattle.cutter_joined.specs.Joined.{Joined, Right}
 use Rattle.cutter_joined.proofs.Joined.{black-in, right-same, right-joined, right-black}
-use Rattle.cutter_regions.specs.Seeking.{Queued, Sought}
-use Rattle.cutter_regions.specs.Gathering.{Bare, Gathered, Findable}
+use Rattle.cutter_regions.specs.CodeSeeking.{Queued, Sought}
+use Rattle.cutter_regions.specs.CodeGathering.{Bare, Gathered, Findable}
 
 pub gathered-start : {L seen q : List ℕ} {n s : ℕ} → Bare L seen q n s → Gathered L seen q n s seen q n 0
 gathered-start b =

@@ -12,12 +12,12 @@ use Rattle.laws.proofs.Choice.{same?, below?}
 use Rattle.laws.proofs.Lists.{getD-default}
 use Rattle.laws.proofs.Counts.{tally-lose}
 use Rattle.cutter_ground.specs.Cells.{CN, CB-BLACK, CB-FILLED}
-use Rattle.cutter_ground.specs.Visit.{SEEN, Holds, Room, Visited, Around}
+use Rattle.cutter_ground.specs.CodeVisit.{SEEN, Holds, Room, Visited, Around}
 use Rattle.cutter_ground.proofs.Visits.{holds-in, room-kept}
 use Rattle.cutter_joined.specs.Joined.{Black, Next, Joined, here, step}
 use Rattle.cutter_joined.proofs.Joined.{black-in, black-last, closed}
 use Rattle.cutter_joined.proofs.Steps.{left-next, right-next, up-next, down-next, one-of}
-use Rattle.cutter_regions.specs.Seeking.{Ready, Queued, Sought}
+use Rattle.cutter_regions.specs.CodeSeeking.{Ready, Queued, Sought}
 
 -- a visit's test and `Black` say the same
 holds-black : (g : List ℕ) (c : ℕ) → Holds g CB-BLACK c → Black g c

@@ -3,8 +3,8 @@ use cutter_ground::CB_BLACK;
 use cutter_ground::CN;
 use cutter_ground::SEEN;
 ghost use Rattle.cutter_ground.specs.Cells.{CN};
-ghost use Rattle.cutter_regions.specs.Seeking.{Ready, Sought};
-ghost use Rattle.cutter_regions.specs.Gathering.{Bare, Gathered, Findable};
+ghost use Rattle.cutter_regions.specs.CodeSeeking.{Ready, Sought};
+ghost use Rattle.cutter_regions.specs.CodeGathering.{Bare, Gathered, Findable};
 
 // Marks the region of the black cell start, of which no cell has a mark, and puts its cells on the queue from from on; the queue's new end.
 fn search(

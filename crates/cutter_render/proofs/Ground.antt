@@ -11,10 +11,9 @@ use Rattle.laws.proofs.Table.{table-more}
 use Rattle.bits.specs.Bits.{number}
 use Rattle.bits.proofs.Number.{number-above, number-ext}
 use Rattle.frame.specs.Frame.{pageByte}
-use Rattle.cutter_ground.specs.Cells.{cellAt}
-use Rattle.cutter_state.specs.State.{place}
+use Rattle.cutter_ground.specs.Cells.{cellAt, place}
 use Rattle.cutter_picture.specs.Picture.{isInk, groundLit}
-use Rattle.cutter_render.specs.Draw.{cellsLit, grounded}
+use Rattle.cutter_render.specs.CodeDraw.{cellsLit, grounded}
 
 -- two bits, and two more, and two more, and two more
 pairs : (f : ℕ → Bool) → bitOr (bitOr (bitOr (number 2 f) (number 2 (λ k. f (2 + k)) * 2 ^ 2 % 256)) (number 2 (λ k. f (4 + k)) * 2 ^ 4 % 256)) (number 2 (λ k. f (6 + k)) * 2 ^ 6 % 256) ≡ number 8 f

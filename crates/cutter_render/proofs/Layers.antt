@@ -12,14 +12,14 @@ use Rattle.laws.proofs.Choice.{same?}
 use Rattle.laws.proofs.Lists.{any-take}
 use Rattle.laws.proofs.Below.{below-turn}
 use Rattle.frame.specs.Frame.{pack, pixel}
-use Rattle.frame.specs.Draw.{Framed, inked, papered, inverted}
+use Rattle.frame.specs.CodeDraw.{Framed, inked, papered, inverted}
 use Rattle.frame.proofs.Pack.{pack-ext}
 use Rattle.frame.proofs.Draw.{drawn-pack, xor-false}
 use Rattle.cutter_ground.specs.declared.Mover.{Mover}
 use Rattle.cutter_state.specs.declared.Cutter.{Cutter}
 use Rattle.cutter_state.specs.State.{creatures}
 use Rattle.cutter_picture.specs.Picture.{dotLit, cellLit, groundLit, moverLit, noLife, cutLit}
-use Rattle.cutter_render.specs.Draw.{columnLit}
+use Rattle.cutter_render.specs.CodeDraw.{columnLit}
 
 -- no creature, and one more
 module _ (frame₀ : List ℕ) (es : List Mover) where

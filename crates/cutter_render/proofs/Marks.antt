@@ -15,10 +15,10 @@ use Rattle.laws.proofs.Lists.{all-at}
 use Rattle.bits.specs.Bits.{number}
 use Rattle.frame.specs.Frame.{pageByte}
 use Rattle.cutter_picture.specs.Picture.{dotLit}
-use Rattle.cutter_render.specs.Draw.{columnLit, onPanel}
-use Rattle.cutter_ground.specs.Cells.{CW, CH, CB-BLACK, cellAt}
+use Rattle.cutter_render.specs.CodeDraw.{columnLit, onPanel}
+use Rattle.cutter_ground.specs.Cells.{CW, CH, CB-BLACK, cellAt, place}
 use Rattle.cutter_ground.specs.declared.Mover.{Mover}
-use Rattle.cutter_state.specs.State.{place, holdsAt}
+use Rattle.cutter_state.specs.State.{holdsAt}
 use Rattle.cutter_state.specs.WellFormed.{moverOk, isUnit}
 
 module _ (x y : ℕ) (hx : x < 128) (hy : y < 64) where

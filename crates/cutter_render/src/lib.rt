@@ -5,9 +5,9 @@ ghost use lib.ListN.{take};
 ghost use Rattle.laws.specs.Lists.{any};
 ghost use Rattle.bits.specs.Bits.{number};
 ghost use Rattle.frame.specs.Frame.{pack, pixel};
-ghost use Rattle.frame.specs.Draw.{inked, inverted, papered};
-ghost use Rattle.cutter_picture.specs.Picture.{Drawable, cellLit, cutLit, dotLit, groundLit, isInk, moverLit, noLife};
-ghost use Rattle.cutter_render.specs.Draw.{Alive, Cell, Column, Four, Lent, NextPage, Paged, Peopled, Spot, cellsLit, columnLit};
+ghost use Rattle.frame.specs.CodeDraw.{inked, inverted, papered};
+ghost use Rattle.cutter_picture.specs.Picture.{cellLit, cutLit, dotLit, groundLit, isInk, moverLit, noLife};
+ghost use Rattle.cutter_render.specs.CodeDraw.{Alive, Cell, Column, Four, Lent, NextPage, Paged, Peopled, Spot, cellsLit, columnLit};
 use bits::TILE;
 use cutter_ground::CB_FILLED;
 use cutter_ground::CB_TRAIL;
@@ -18,6 +18,7 @@ use cutter_ground::Mover;
 use cutter_state::Cutter;
 use frame::PAGE_LEN;
 use frame::PAGES;
+ghost use Rattle.cutter_picture.specs.CodePicture.{Drawable};
 
 // Rows of cells in a page: a cell is 2 by 2 pixels.
 const ROWS: usize = TILE / 2;

@@ -7,12 +7,11 @@ use lib.Dec.{leb}
 use Rattle.laws.proofs.Choice.{cond-both}
 use Rattle.found.specs.declared.Found.{Found}
 use Rattle.found.specs.declared.Found.the-variants.{At, Nobody}
-use Rattle.cutter_ground.specs.Cells.{CN, CB-BLACK, CB-FILLED, CB-TRAIL, onBorder}
+use Rattle.cutter_ground.specs.Cells.{CN, CB-BLACK, CB-FILLED, CB-TRAIL, onBorder, lineAt, claimedAt}
 use Rattle.cutter_state.specs.declared.Cutter.{Cutter}
 use Rattle.cutter_state.specs.State.{creatures}
 use Rattle.cutter_state.specs.Change.{withTrailing, killed}
-use Rattle.cutter_rules.specs.Tick.{creatureAt, lineAt}
-use Rattle.cutter_rules.specs.Step.{noDirection, stopped, target, claimedAt, entered, laid, cutClosed, atBorder, trailingStep, walkingStep, met, stepped, lineErased}
+use Rattle.cutter_rules.specs.Step.{noDirection, stopped, target, entered, laid, cutClosed, atBorder, trailingStep, walkingStep, met, stepped, lineErased, creatureAt}
 
 -- a step does not set won
 module _ (c : Cutter) where

@@ -10,8 +10,8 @@ use borrow.Author.Tests.{ltb-true, eqb-true}
 use Rattle.laws.specs.Lists.{allBelow}
 use Rattle.laws.proofs.Choice.{and-left, and-right}
 use Rattle.laws.proofs.Below.{at-below}
-use Rattle.cutter_ground.specs.Cells.{MAX-ENEMIES}
-use Rattle.cutter_rules.specs.Level.{DRAWS, creaturesOf, drawAt, inRange, drawsOk}
+use Rattle.cutter_rules.specs.Level.{DRAWS-EACH, creaturesOf, drawAt, inRange, drawsOk}
+use Rattle.cutter_ground.specs.Movers.{MAX-ENEMIES}
 
 -- at most 16 creatures, whatever the level
 pub creatures-few : (level : ℕ) → creaturesOf level ≤ MAX-ENEMIES
@@ -29,11 +29,11 @@ place-fits draws i e =
 
 module _ (draws : List ℕ) (n : ℕ) (fit : drawsOk draws n ≡ true) where
   -- four for each of n creatures
-  pub draws-length : length draws ≡ DRAWS * n
+  pub draws-length : length draws ≡ DRAWS-EACH * n
   unfolding drawsOk
-  draws-length = eqb-true (length draws) (DRAWS * n) (and-left (eqb (length draws) (DRAWS * n)) (allBelow n (inRange draws)) fit)
+  draws-length = eqb-true (length draws) (DRAWS-EACH * n) (and-left (eqb (length draws) (DRAWS-EACH * n)) (allBelow n (inRange draws)) fit)
 
   -- those of each are in range
   pub draws-fit : (i : ℕ) → i < n → inRange draws i ≡ true
   unfolding drawsOk
-  draws-fit = at-below n (inRange draws) (and-right (eqb (length draws) (DRAWS * n)) (allBelow n (inRange draws)) fit)
+  draws-fit = at-below n (inRange draws) (and-right (eqb (length draws) (DRAWS-EACH * n)) (allBelow n (inRange draws)) fit)

@@ -6,13 +6,12 @@ use native.Mathlib.Omega.{arith}
 use borrow.Author.Tests.{le-leb, lt-leb}
 use Rattle.found.specs.declared.Found.{Found}
 use Rattle.found.specs.declared.Found.the-variants.{At, Nobody}
-use Rattle.cutter_ground.specs.Cells.{CW, CN, onBorder}
+use Rattle.cutter_ground.specs.Cells.{CW, CN, onBorder, lineAt, claimedAt, place}
 use Rattle.cutter_border.proofs.Nearest.{nearest}
 use Rattle.cutter_state.specs.declared.Cutter.{Cutter}
-use Rattle.cutter_state.specs.State.{place, creatures}
+use Rattle.cutter_state.specs.State.{creatures}
 use Rattle.cutter_state.specs.Change.{killed}
-use Rattle.cutter_rules.specs.Tick.{creatureAt, lineAt}
-use Rattle.cutter_rules.specs.Step.{noDirection, stopped, playerCell, target, claimedAt, cutClosed, atBorder, trailingStep, walkingStep, met, stepped}
+use Rattle.cutter_rules.specs.Step.{noDirection, stopped, playerCell, target, cutClosed, atBorder, trailingStep, walkingStep, met, stepped, creatureAt}
 
 -- no direction, nothing
 pub step-none : (c : Cutter) → noDirection c ≡ true → c ≡ stepped c

@@ -6,11 +6,11 @@ use lib.Dec.{eqb, ltb}
 use lib.IntN.{ℤ, pos, negsuc}
 use lib.ListN.{length, getD, replicate}
 use Rattle.laws.specs.Lists.{allBelow, table}
-use Rattle.cutter_ground.specs.Cells.{CW, CH, CB-BLACK, CB-FILLED, MAX-ENEMIES}
+use Rattle.cutter_ground.specs.Cells.{CW, CH, CB-BLACK, CB-FILLED}
 use Rattle.cutter_ground.specs.declared.Mover.{Mover}
-use Rattle.cutter_closing.specs.Closing.{slots}
 use Rattle.cutter_state.specs.declared.Cutter.{Cutter}
 use Rattle.cutter_state.specs.Change.{withGrid, withPlayer, withDirection, withTrailing, withCreatures}
+use Rattle.cutter_ground.specs.Movers.{MAX-ENEMIES, slots}
 
 -- ---- ring claimed, rest black
 
@@ -37,12 +37,12 @@ abbrev pub creaturesOf : ℕ → ℕ
 creaturesOf level = min level MAX-ENEMIES
 
 -- four draws each
-abbrev pub DRAWS : ℕ
-DRAWS = 4
+abbrev pub DRAWS-EACH : ℕ
+DRAWS-EACH = 4
 
 -- the draw k of the creature i
 abbrev pub drawAt : List ℕ → ℕ → ℕ → ℕ
-drawAt draws i k = getD draws (DRAWS * i + k) 0
+drawAt draws i k = getD draws (DRAWS-EACH * i + k) 0
 
 -- below 62, 30, 2, 2
 unfoldable pub inRange : List ℕ → ℕ → Bool
@@ -54,7 +54,7 @@ inRange draws i =
 
 -- the right number of draws for n creatures, and each in range
 unfoldable pub drawsOk : List ℕ → ℕ → Bool
-drawsOk draws n = eqb (length draws) (DRAWS * n) && allBelow n (inRange draws)
+drawsOk draws n = eqb (length draws) (DRAWS-EACH * n) && allBelow n (inRange draws)
 
 -- velocity draw 0 is -1, 1 is 1
 unfoldable pub velocity : ℕ → ℤ
@@ -62,8 +62,8 @@ velocity zero = negsuc 0
 velocity (suc d) = pos 1
 
 -- place is 1 plus the draw
-unfoldable pub drawn : List ℕ → ℕ → Mover
-drawn draws i =
+unfoldable pub drawnMover : List ℕ → ℕ → Mover
+drawnMover draws i =
     record {
       x = 1 + drawAt draws i 0;
       y = 1 + drawAt draws i 1;
@@ -73,7 +73,7 @@ drawn draws i =
 
 -- the creatures of n draws, and zeros in the slots past them
 abbrev pub drawnEnemies : List ℕ → ℕ → List Mover
-drawnEnemies draws n = slots (table n (drawn draws))
+drawnEnemies draws n = slots (table n (drawnMover draws))
 
 -- ---- the level
 

@@ -7,9 +7,9 @@ use lib.IntN.{ℤ, pos, negsuc}
 use lib.ListN.{set}
 use Rattle.found.specs.declared.Found.{Found}
 use Rattle.found.specs.declared.Found.the-variants.{At, Nobody}
-use Rattle.cutter_ground.specs.Cells.{CW, CN, CB-BLACK, CB-FILLED, CB-TRAIL, cellAt, onBorder}
+use Rattle.cutter_ground.specs.Cells.{CW, CN, CB-BLACK, CB-TRAIL, onBorder, lineAt, claimedAt, place}
 use Rattle.cutter_state.specs.declared.Cutter.{Cutter}
-use Rattle.cutter_state.specs.State.{place, creatures}
+use Rattle.cutter_state.specs.State.{creatures}
 use Rattle.cutter_state.specs.WellFormed.{isZero}
 use Rattle.cutter_state.specs.Change.{withGrid, withPlayer, withDirection, withTrailing, withCreatures, killed}
 use Rattle.cutter_closing.specs.Counted.{MAX-COMP}
@@ -17,22 +17,11 @@ use Rattle.cutter_closing.specs.Closing.{closeCut}
 use Rattle.cutter_border.proofs.Nearest.{nearest}
 use Rattle.cutter_rules.specs.Ahead.{diagonalOf}
 use Rattle.cutter_rules.specs.Level.{atStart}
-use Rattle.cutter_rules.specs.Tick.{creatureAt, lineAt}
+use Rattle.cutter_ground.specs.declared.Mover.{Mover}
+use Rattle.found.specs.First.{first}
+use Rattle.cutter_ground.specs.Movers.{placeOf}
 
 -- ---- direction
-
--- numbered as in a move
-abbrev pub UP : ℕ
-UP = 0
-
-abbrev pub RIGHT : ℕ
-RIGHT = 1
-
-abbrev pub DOWN : ℕ
-DOWN = 2
-
-abbrev pub LEFT : ℕ
-LEFT = 3
 
 -- the unit step for 0 to 3: up, right, down, left
 unfoldable pub unitX : ℕ → ℤ
@@ -53,6 +42,14 @@ directed c d = withDirection c (unitX d) (unitY d)
 
 -- ---- step
 
+-- a creature at a cell
+abbrev pub isAt : ℕ → Mover → Bool
+isAt at e = eqb (placeOf e) at
+
+-- the first creature at a cell and how many are there, or nobody
+abbrev pub creatureAt : List Mover → ℕ → Found
+creatureAt es at = first (isAt at) es
+
 abbrev pub noDirection : Cutter → Bool
 noDirection c = isZero (c .dx) && isZero (c .dy)
 
@@ -66,9 +63,6 @@ playerCell c = place (c .px) (c .py)
 -- the cell that the step goes to (one part of a direction is 0)
 abbrev pub target : Cutter → ℕ
 target c = diagonalOf (c .dx) (c .dy) (playerCell c)
-
-abbrev pub claimedAt : List ℕ → ℕ → Bool
-claimedAt g t = eqb (cellAt g t) CB-FILLED
 
 -- the player enters the cell t
 abbrev pub entered : Cutter → ℕ → Cutter

@@ -6,11 +6,12 @@ use Prim.Native.Nat.{ℕ, _+_, _-_}
 use lib.IntN.{ℤ, pos, negsuc}
 use lib.ListN.{replicate}
 use Rattle.refusal.specs.Refusal.{NONE, CELLS, PLAYER, CREATURES, NUMBERS}
-use Rattle.cutter_ground.specs.Cells.{CW, CN, MAX-ENEMIES, CB-BLACK, CB-FILLED, CB-TRAIL}
+use Rattle.cutter_ground.specs.Cells.{CW, CN, CB-BLACK, CB-FILLED, CB-TRAIL}
 use Rattle.cutter_ground.specs.declared.Mover.{Mover}
 use Rattle.cutter_state.specs.declared.Cutter.{Cutter}
 use Rattle.cutter_state.specs.State.{holdsAt}
-use Rattle.cutter_state.specs.WellFormed.{rowsFilled, columnsFilled, cellsOk, directionOk, playerOk, moverOk, blank, creaturesOk, numbersOk, refusalOf}
+use Rattle.cutter_state.specs.WellFormed.{rowsFilled, columnsFilled, cellsOk, directionOk, playerOk, moverOk, isBlank, creaturesOk, numbersOk, refusalOf}
+use Rattle.cutter_ground.specs.Movers.{MAX-ENEMIES}
 
 abbrev mover : ℕ → ℕ → ℤ → ℤ → Mover
 mover x y vx vy = record { x = x; y = y; vx = vx; vy = vy }
@@ -41,12 +42,12 @@ pub record Order : Type 0 where
   pub none : refusalOf (stateOf (cells CB-FILLED) 0 zeros 0 1 3) ≡ NONE
 
 pub order : Order
-unfolding refusalOf cellsOk rowsFilled columnsFilled playerOk moverOk creaturesOk numbersOk blank holdsAt
+unfolding refusalOf cellsOk rowsFilled columnsFilled playerOk moverOk creaturesOk numbersOk isBlank holdsAt
 order = record { one = refl; two = refl; three = refl; four = refl; none = refl }
 
 -- each part with one thing wrong, by one
 pub record Nearest : Type 0 where
-  pub hole : cellsOk (CB-BLACK ∷ replicate (CN - 1) CB-FILLED) false ≡ false
+  pub hole : cellsOk (CB-FILLED ∷ CB-BLACK ∷ replicate (CN - 2) CB-FILLED) false ≡ false
   pub lineAlone : cellsOk (but CB-TRAIL) false ≡ false
   pub trailingAlone : cellsOk (cells CB-FILLED) true ≡ false
   pub diagonal : directionOk (pos 1) (pos 1) ≡ false
@@ -58,5 +59,5 @@ pub record Nearest : Type 0 where
   pub fourLives : numbersOk (stateOf (cells CB-FILLED) 0 zeros 0 1 4) ≡ false
 
 pub nearest : Nearest
-unfolding cellsOk rowsFilled columnsFilled moverOk creaturesOk numbersOk blank holdsAt
+unfolding cellsOk rowsFilled columnsFilled moverOk creaturesOk numbersOk isBlank holdsAt
 nearest = record { hole = refl; lineAlone = refl; trailingAlone = refl; diagonal = refl; right = refl; claimed = refl; still = refl; sixteen = refl; seventeen = refl; fourLives = refl }

@@ -8,10 +8,11 @@ use Rattle.laws.specs.Lists.{all, any}
 use Rattle.laws.proofs.Choice.{and-left, and-right, and-three}
 use Rattle.refusal.specs.Refusal.{NONE}
 use Rattle.refusal.proofs.Checks.{none-passes, passes-none}
-use Rattle.cutter_ground.specs.Cells.{CN, MAX-ENEMIES}
+use Rattle.cutter_ground.specs.Cells.{CN}
 use Rattle.cutter_state.specs.declared.Cutter.{Cutter}
 use Rattle.cutter_state.specs.State.{holdsAt, creatures, spare}
-use Rattle.cutter_state.specs.WellFormed.{MAX-LIVES, MAX-LEVEL, isCode, isTrail, rowsFilled, columnsFilled, cellsOk, footing, directionOk, playerOk, moverOk, blank, creaturesOk, numbersOk, wellFormed, refusalOf, WellFormed}
+use Rattle.cutter_state.specs.WellFormed.{MAX-LIVES, MAX-LEVEL, isCode, isTrail, rowsFilled, columnsFilled, cellsOk, footing, directionOk, playerOk, moverOk, isBlank, creaturesOk, numbersOk, wellFormed, refusalOf, WellFormed}
+use Rattle.cutter_ground.specs.Movers.{MAX-ENEMIES}
 
 none-well-formed : (c : Cutter) → refusalOf c ≡ NONE → wellFormed c ≡ true
 unfolding refusalOf wellFormed
@@ -43,7 +44,7 @@ facts c e =
     let place = holdsAt g (footing (c .trailing)) (c .px) (c .py) in
     let way = directionOk (c .dx) (c .dy) in
     let few = eqb (length (c .enemies)) MAX-ENEMIES && leb (c .count) MAX-ENEMIES in
-    let s = and-three few (all (moverOk g) (creatures c)) (all blank (spare c)) (t .2) in
+    let s = and-three few (all (moverOk g) (creatures c)) (all isBlank (spare c)) (t .2) in
     let k = and-three (leb (c .lives) MAX-LIVES) (leb 1 (c .level)) (leb (c .level) MAX-LEVEL) n in
     record {
       cells = eqb-true (length g) CN (and-left (eqb (length g) CN) (all isCode g) (a .0));

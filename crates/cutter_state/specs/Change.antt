@@ -6,7 +6,7 @@ use lib.IntN.{ℤ}
 use lib.ListN.{set}
 use Rattle.cutter_ground.specs.declared.Mover.{Mover}
 use Rattle.cutter_state.specs.declared.Cutter.{Cutter}
-use Rattle.cutter_state.specs.State.{place}
+use Rattle.cutter_ground.specs.Cells.{place}
 
 module _ (c : Cutter) where
   abbrev pub withGrid : List ℕ → Cutter

@@ -1,3 +1,4 @@
 pub mod State
 pub mod WellFormed
 pub mod Change
+pub mod CodeState

@@ -8,10 +8,11 @@ use lib.IntN.{ℤ, natAbs}
 use lib.ListN.{length}
 use Rattle.laws.specs.Lists.{all, any, allBelow}
 use Rattle.refusal.specs.Refusal.{CELLS, PLAYER, CREATURES, NUMBERS, unless, _then_}
-use Rattle.cutter_ground.specs.Cells.{CW, CH, CN, MAX-ENEMIES, CB-BLACK, CB-FILLED, CB-TRAIL, cellAt}
+use Rattle.cutter_ground.specs.Cells.{CW, CH, CN, CB-BLACK, CB-FILLED, CB-TRAIL, cellAt, place, claimedAt}
 use Rattle.cutter_ground.specs.declared.Mover.{Mover}
 use Rattle.cutter_state.specs.declared.Cutter.{Cutter}
-use Rattle.cutter_state.specs.State.{place, holdsAt, creatures, spare}
+use Rattle.cutter_state.specs.State.{holdsAt, creatures, spare}
+use Rattle.cutter_ground.specs.Movers.{MAX-ENEMIES}
 
 abbrev pub MAX-LIVES : ℕ
 MAX-LIVES = 3
@@ -28,16 +29,13 @@ isCode k = leb k CB-TRAIL
 abbrev pub isTrail : ℕ → Bool
 isTrail k = eqb k CB-TRAIL
 
-abbrev pub filledAt : List ℕ → ℕ → ℕ → Bool
-filledAt g x y = eqb (cellAt g (place x y)) CB-FILLED
-
 -- the first and the last row are claimed
 unfoldable pub rowsFilled : List ℕ → Bool
-rowsFilled g = allBelow CW (λ x. filledAt g x 0 && filledAt g x (CH - 1))
+rowsFilled g = allBelow CW (λ x. claimedAt g (place x 0) && claimedAt g (place x (CH - 1)))
 
 -- the first and the last column are claimed
 unfoldable pub columnsFilled : List ℕ → Bool
-columnsFilled g = allBelow CH (λ y. filledAt g 0 y && filledAt g (CW - 1) y)
+columnsFilled g = allBelow CH (λ y. claimedAt g (place 0 y) && claimedAt g (place (CW - 1) y))
 
 -- 64 by 32 cells, codes 0 to 2; the outer ring of 188 cells is claimed; line cells exist exactly when trailing
 unfoldable pub cellsOk : List ℕ → Bool → Bool
@@ -74,8 +72,8 @@ unfoldable pub moverOk : List ℕ → Mover → Bool
 moverOk g e = holdsAt g CB-BLACK (e .x) (e .y) && isUnit (e .vx) && isUnit (e .vy)
 
 -- a slot that holds zeros
-unfoldable pub blank : Mover → Bool
-blank e = eqb (e .x) 0 && eqb (e .y) 0 && isZero (e .vx) && isZero (e .vy)
+unfoldable pub isBlank : Mover → Bool
+isBlank e = eqb (e .x) 0 && eqb (e .y) 0 && isZero (e .vx) && isZero (e .vy)
 
 -- at most 16 creatures, each right by itself; slots past the count hold zeros
 unfoldable pub creaturesOk : Cutter → Bool
@@ -83,7 +81,7 @@ creaturesOk c =
     eqb (length (c .enemies)) MAX-ENEMIES
     && leb (c .count) MAX-ENEMIES
     && all (moverOk (c .grid)) (creatures c)
-    && all blank (spare c)
+    && all isBlank (spare c)
 
 -- ---- 4: lives or level
 
@@ -116,6 +114,6 @@ pub record WellFormed (c : Cutter) : Type 0 where
   pub slots : length (c .enemies) ≡ MAX-ENEMIES
   pub few : c .count ≤ MAX-ENEMIES
   pub each : all (moverOk (c .grid)) (creatures c) ≡ true
-  pub rest : all blank (spare c) ≡ true
+  pub rest : all isBlank (spare c) ≡ true
   pub lives : c .lives ≤ MAX-LIVES
   pub level : (1 ≤ c .level) × (c .level ≤ MAX-LEVEL)

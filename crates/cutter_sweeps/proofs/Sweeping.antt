@@ -17,7 +17,7 @@ use Rattle.cutter_joined.specs.Joined.{Black}
 use Rattle.cutter_joined.proofs.Labels.{total}
 use Rattle.cutter_sweeps.specs.Sweeps.{ownOf, owns, lower, low, lowered, sweep, Sweeps, begun, again}
 use Rattle.cutter_sweeps.specs.Trainer.{changes}
-use Rattle.cutter_sweeps.specs.Table.{Numbers, Swept}
+use Rattle.cutter_sweeps.specs.CodeTable.{Numbers, Swept}
 use Rattle.cutter_sweeps.proofs.Low.{low-le, lowered-in, lowered-same, total-set}
 
 changes-none : (l : List ℕ) → changes l l ≡ 0

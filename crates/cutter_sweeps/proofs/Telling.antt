@@ -14,7 +14,7 @@ use Rattle.laws.proofs.Choice.{same?}
 use Rattle.laws.proofs.Lists.{drop-one, drop-end, getD-default, getD-replicate-same}
 use Rattle.cutter_ground.specs.Cells.{CN, CB-BLACK, CB-FILLED}
 use Rattle.cutter_sweeps.specs.Trainer.{blackNumbers, kinds}
-use Rattle.cutter_sweeps.specs.Table.{Reached}
+use Rattle.cutter_sweeps.specs.CodeTable.{Reached}
 use Rattle.cutter_sweeps.proofs.Low.{sweeps-low}
 
 -- the numbers on black cells from i on

@@ -1,3 +1,3 @@
 pub mod Sweeps
 pub mod Trainer
-pub mod Table
+pub mod CodeTable

@@ -4,7 +4,7 @@ use cutter_ground::CN;
 ghost use mathlib.Core.Path.{_≡_};
 ghost use Rattle.cutter_sweeps.specs.Sweeps.{ownOf, owns, lower, low, Settled};
 ghost use Rattle.cutter_sweeps.specs.Trainer.{numbersLeft};
-ghost use Rattle.cutter_sweeps.specs.Table.{Numbers, Lowest, Swept, Reached};
+ghost use Rattle.cutter_sweeps.specs.CodeTable.{Numbers, Lowest, Swept, Reached};
 
 fn own(cell: u8, number: u16) -> u16
     ensures { λ r. ⌜ r ≡ ownOf cell number ⌝ }

@@ -9,9 +9,10 @@ use lib.ListN.{drop}
 use Rattle.laws.proofs.Choice.{cond-both}
 use Rattle.cutter_state.specs.declared.Cutter.{Cutter}
 use Rattle.cutter_state.specs.Change.{withDirection}
-use Rattle.cutter_rules.specs.Step.{UP, RIGHT, DOWN, LEFT, directed}
-use Rattle.cutter_pass.specs.Pass.{KEY-QUIT, keyed, played}
-use Rattle.cutter_turn.specs.Keys.{isWay, Plays}
+use Rattle.cutter_rules.specs.Step.{directed}
+use Rattle.cutter_pass.specs.Pass.{keyed, played}
+use Rattle.cutter_turn.specs.CodeKeys.{isWay, Plays}
+use Rattle.controls.specs.Keys.{UP, RIGHT, DOWN, LEFT, KEY-QUIT, keyedBy, playedBy}
 
 -- a key by its four tests
 abbrev chosen : Bool → Bool → Bool → Bool → Cutter → Cutter
@@ -34,7 +35,7 @@ chosen-none false false false true c e = absurd (false≢true (sym e))
 module _ (c : Cutter) where
   -- a direction replaces the one before
   over : (j : ℕ) (x y : ℤ) → withDirection (keyed c j) x y ≡ withDirection c x y
-  unfolding keyed
+  unfolding keyedBy
   over j x y =
       let P : Cutter → Type 0 = λ s. withDirection s x y ≡ withDirection c x y in
       cond-both P (eqb j 5) _ _ (λ _. refl)
@@ -42,11 +43,11 @@ module _ (c : Cutter) where
       (λ _. cond-both P (eqb j 7) _ _ (λ _. refl) (λ _. cond-both P (eqb j 9) _ _ (λ _. refl) (λ _. refl))))
 
   pub last-way : (j k : ℕ) → isWay k ≡ true → keyed (keyed c j) k ≡ keyed c k
-  unfolding keyed
+  unfolding keyedBy
   last-way j k e = chosen-same (eqb k 5) (eqb k 8) (eqb k 7) (eqb k 9) (keyed c j) c (over j) e
 
   pub no-way : (k : ℕ) → isWay k ≡ false → keyed c k ≡ c
-  unfolding keyed
+  unfolding keyedBy
   no-way k e = chosen-none (eqb k 5) (eqb k 8) (eqb k 7) (eqb k 9) c e
 
   pub no-key : keyed c 0 ≡ c
@@ -59,7 +60,7 @@ Left keys last i = (c : Cutter) → played (keyed c last) (drop i keys) ≡ play
 module _ (keys : List ℕ) (last i : ℕ) (e : Left keys last i) where
   module _ {key : ℕ} (h : drop i keys ≡ key ∷ drop (i + 1) keys) where
     next : eqb key KEY-QUIT ≡ false → (c : Cutter) → played (keyed (keyed c last) key) (drop (i + 1) keys) ≡ played c keys
-    unfolding played
+    unfolding playedBy
     next n c = let q = e c in rw (h, n) at q
 
     pub keys-way : eqb key KEY-QUIT ≡ false → isWay key ≡ true → Left keys key (i + 1)
@@ -69,9 +70,9 @@ module _ (keys : List ℕ) (last i : ℕ) (e : Left keys last i) where
     keys-other n w c = ap (λ (s : Cutter). played s (drop (i + 1) keys)) (sym (no-way (keyed c last) key w)) ∙ next n c
 
     pub keys-quit : eqb key KEY-QUIT ≡ true → Plays keys (record { key = last; quit = true })
-    unfolding played
+    unfolding playedBy
     keys-quit n c = let q = e c in rw (h, n) at q
 
   pub keys-end : drop i keys ≡ [] → Plays keys (record { key = last; quit = false })
-  unfolding played
+  unfolding playedBy
   keys-end h c = let q = e c in rw h at q

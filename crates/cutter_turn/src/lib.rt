@@ -1,5 +1,14 @@
 // One turn of Block Cutter's loop: what is left of it when keys, clock, draws and record are numbers.
 use answer::Answer;
+use controls::DOWN;
+use controls::KEY_DOWN;
+use controls::KEY_LEFT;
+use controls::KEY_QUIT;
+use controls::KEY_RIGHT;
+use controls::KEY_UP;
+use controls::LEFT;
+use controls::RIGHT;
+use controls::UP;
 use cutter_check::check;
 use cutter_ground::black_count;
 use cutter_level::creatures_of;
@@ -14,15 +23,6 @@ use cutter_pass::CUT_ENEMY_CYCLES;
 use cutter_pass::CUT_MOVE_CYCLES;
 use cutter_pass::CutterPassed;
 use cutter_pass::CutterTurn;
-use cutter_pass::KEY_DOWN;
-use cutter_pass::KEY_LEFT;
-use cutter_pass::KEY_QUIT;
-use cutter_pass::KEY_RIGHT;
-use cutter_pass::KEY_UP;
-use cutter_rules::DOWN;
-use cutter_rules::LEFT;
-use cutter_rules::RIGHT;
-use cutter_rules::UP;
 use cutter_state::Cutter;
 use cutter_state::MAX_LEVEL;
 use pace::both_ticks;
@@ -32,8 +32,9 @@ ghost use mathlib.Core.Path.{_≡_};
 ghost use Prim.Native.Nat.{_-_};
 ghost use Rattle.cutter_state.specs.WellFormed.{WellFormed};
 ghost use Rattle.cutter_rules.specs.Tick.{enemiesStepped};
-ghost use Rattle.cutter_turn.specs.Keys.{isWay, Plays};
-ghost use Rattle.cutter_pass.specs.Pass.{keyed, played, scored, moved, levelDue, passRefusal, hurt, nextLevel, NextLevel, still, afterDeath, afterKeys, passAt};
+ghost use Rattle.cutter_turn.specs.CodeKeys.{isWay, Plays};
+ghost use Rattle.cutter_pass.specs.Pass.{keyed, played, scored, stepScored, levelDue, passRefusal, hurt, nextLevel, still, afterDeath, afterKeys, passAt};
+ghost use Rattle.cutter_pass.specs.CodePass.{NextLevel};
 
 fn level_due(c: Cutter) -> bool
     ensures { λ r. ⌜ r ≡ levelDue c ⌝ }
@@ -159,7 +160,7 @@ fn score(c: Cutter) -> Cutter
 
 fn step_if(due: bool, c: Cutter) -> Cutter
     requires { ⌜ WellFormed c ⌝ }
-    ensures { λ r. ⌜ r ≡ cond due (moved c) c ⌝ }
+    ensures { λ r. ⌜ r ≡ cond due (stepScored c) c ⌝ }
 {
     if due {
         let stepped = step_player(c);

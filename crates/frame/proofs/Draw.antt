@@ -16,7 +16,7 @@ use Rattle.laws.proofs.Table.{length-table, getD-table}
 use Rattle.bits.specs.Bits.{number}
 use Rattle.bits.proofs.Number.{number-and, number-not, number-ext}
 use Rattle.frame.specs.Frame.{pack, pixel, pageByte}
-use Rattle.frame.specs.Draw.{Framed, drawn}
+use Rattle.frame.specs.CodeDraw.{Framed, changed}
 use Rattle.frame.proofs.Pack.{pixel-pack, pack-ext}
 
 pub length-pack : (f : ℕ → ℕ → Bool) → length (pack f) ≡ 1024
@@ -38,7 +38,7 @@ pub length-framed : (l : List ℕ) → Framed l → length l ≡ 1024
 length-framed l e = ap length e ∙ length-pack (pixel l)
 
 -- what is drawn on a packed picture
-pub drawn-pack : (op : Bool → Bool → Bool) (f g : ℕ → ℕ → Bool) → drawn op (pack f) g ≡ pack (λ x y. op (f x y) (g x y))
+pub drawn-pack : (op : Bool → Bool → Bool) (f g : ℕ → ℕ → Bool) → changed op (pack f) g ≡ pack (λ x y. op (f x y) (g x y))
 drawn-pack op f g = pack-ext _ _ (λ x y hx hy. ap (λ (b : Bool). op b (g x y)) (pixel-pack f x y hx hy))
 
 -- An operation on a byte that works bit by bit, and keeps a bit where nothing is drawn.
@@ -58,7 +58,7 @@ module _ (op : Bool → Bool → Bool) (on : ℕ → ℕ → ℕ)
             getD-set-other (pack f) i k _ 0 q ∙ getD-pack f k lk
             ∙ number-ext 8 _ _ (λ j lj. sym (ap (op _) (off (k % 128) (k / 128 * 8 + j) (omega arith) (omega arith) (λ z. q (omega arith))) ∙ keeps _))
 
-    pub draw-byte : (a : List ℕ) → Framed a → set a i (on (getD a i 0) v) ≡ drawn op a g
+    pub draw-byte : (a : List ℕ) → Framed a → set a i (on (getD a i 0) v) ≡ changed op a g
     draw-byte a h = ap (λ (z : List ℕ). set z i (on (getD z i 0) v)) h ∙ draw-packed (pixel a)
 
 -- inverting nothing

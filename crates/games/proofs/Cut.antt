@@ -13,13 +13,15 @@ use Rattle.cutter_joined.specs.Joined.{Right}
 use Rattle.cutter_joined.proofs.Certificate.{every4, cellOk, rightTest, right-by-test}
 use Rattle.cutter_closing.specs.Counted.{MAX-COMP, rootsFrom, counted, cellsIn}
 use Rattle.cutter_closing.specs.declared.Cut.{Cut}
-use Rattle.cutter_closing.specs.Closing.{claimLine, slots, best, keptOf, claim, closeCut}
+use Rattle.cutter_closing.specs.Closing.{claimLine, best, keptOf, claim, closeCut}
 use Rattle.cutter_closing.proofs.Labels.{closing-by}
 use Rattle.cutter_state.specs.declared.Cutter.{Cutter}
 use Rattle.cutter_rules.specs.Ahead.{along}
-use Rattle.cutter_rules.specs.Level.{edge, rows, freshGrid, velocity, drawn, atStart, freshLevel}
-use Rattle.cutter_rules.specs.Step.{DOWN, unitX, unitY, directed, stepped, met, trailingStep, walkingStep, cutClosed, atBorder}
+use Rattle.cutter_rules.specs.Level.{edge, rows, freshGrid, velocity, drawnMover, atStart, freshLevel}
+use Rattle.cutter_rules.specs.Step.{unitX, unitY, directed, stepped, met, trailingStep, walkingStep, cutClosed, atBorder}
 use Rattle.games.specs.Cases.{again, cutDown, Split}
+use Rattle.cutter_ground.specs.Movers.{slots}
+use Rattle.controls.specs.Keys.{DOWN}
 
 -- the grid with 30 line cells below the start
 abbrev lineRow : List ℕ
@@ -114,11 +116,11 @@ module _ (c : Cutter) (vx vy : ℕ) where
   cutting-east = record { lay = refl; last = refl; kept = refl }
 
   start-west : c .level ≡ 1 → directed (freshLevel c (9 ∷ 9 ∷ vx ∷ vy ∷ [])) DOWN ≡ going c freshGrid 0 false (west vx vy ∷ []) 1
-  unfolding freshLevel atStart drawn table unitX unitY
+  unfolding freshLevel atStart drawnMover table unitX unitY
   start-west e = rw e
 
   start-east : c .level ≡ 1 → directed (freshLevel c (49 ∷ 9 ∷ vx ∷ vy ∷ [])) DOWN ≡ going c freshGrid 0 false (east vx vy ∷ []) 1
-  unfolding freshLevel atStart drawn table unitX unitY
+  unfolding freshLevel atStart drawnMover table unitX unitY
   start-east e = rw e
 
   pub p9 : c .level ≡ 1 → Split 1118 930 (cutDown c (9 ∷ 9 ∷ vx ∷ vy ∷ []))
@@ -138,7 +140,7 @@ module _ (c : Cutter) (vx vy : ℕ) where
     cutting-both = record { lay = refl; last = refl; kept = kept-both }
 
     start-both : c .level ≡ 2 → directed (freshLevel c (9 ∷ 9 ∷ vx ∷ vy ∷ 49 ∷ 9 ∷ wx ∷ wy ∷ [])) DOWN ≡ going c freshGrid 0 false (west vx vy ∷ east wx wy ∷ []) 2
-    unfolding freshLevel atStart drawn table unitX unitY
+    unfolding freshLevel atStart drawnMover table unitX unitY
     start-both e = rw e
 
     pub p11 : c .level ≡ 2 → Split 1118 930 (cutDown c (9 ∷ 9 ∷ vx ∷ vy ∷ 49 ∷ 9 ∷ wx ∷ wy ∷ []))

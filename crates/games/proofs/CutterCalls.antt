@@ -16,7 +16,7 @@ use Rattle.cutter_state.specs.Change.{withLevel, withLives}
 use Rattle.cutter_state.specs.WellFormed.{MAX-LIVES, WellFormed, refusalOf}
 use Rattle.cutter_state.proofs.Facts.{accepted, from-facts, well-formed-none}
 use Rattle.cutter_rules.specs.Level.{creaturesOf, drawsOk, freshLevel}
-use Rattle.cutter_rules.specs.Step.{LEFT, directed, stepped, respawned}
+use Rattle.cutter_rules.specs.Step.{directed, stepped, respawned}
 use Rattle.cutter_rules.specs.Tick.{enemiesStepped}
 use Rattle.cutter_keeps.specs.Kept.{Kept, Fresh}
 use Rattle.cutter_keeps.specs.Steps.{stepClaims, stepLoses, Accounts}
@@ -35,6 +35,7 @@ use Rattle.cutter.specs.declared.calls.CutterAnswer.{CutterAnswer}
 use Rattle.cutter.specs.Calls.{refused, answered, zeros, FIRST-LEVEL, roundCall, levelCall, directionCall, stepCall, sweepsCall, enemiesCall, respawnCall}
 use Rattle.games.proofs.Engines.{sweeps-call}
 use Rattle.games.specs.CutterAccounts.{Formed}
+use Rattle.controls.specs.Keys.{LEFT}
 
 -- ---- a fresh level
 

@@ -9,9 +9,8 @@ use Rattle.answer.specs.declared.Answer.the-variants.{GoingOn}
 use Rattle.mine_state.specs.declared.Mine.{Mine}
 use Rattle.mine_state.specs.WellFormed.{WellFormed, refusalOf}
 use Rattle.mine_state.proofs.Facts.{accepted}
-use Rattle.mine_rules.specs.Ways.{LEFT}
 use Rattle.mine_rules.specs.Move.{moved}
-use Rattle.mine_rules.specs.Tick.{ticked}
+use Rattle.mine_rules.specs.Tick.{enemiesMoved}
 use Rattle.mine_rules.specs.Gravity.{gravityOf}
 use Rattle.mine_keeps.specs.Kept.{Kept}
 use Rattle.mine_keeps.proofs.Changes.{kept-self}
@@ -23,6 +22,7 @@ use Rattle.mine_pass.specs.Pass.{still, passOn, passAt}
 use Rattle.mine_pass.proofs.Kept.{pass-kept}
 use Rattle.mine.specs.declared.calls.MineAnswer.{MineAnswer}
 use Rattle.mine.specs.Calls.{refused, answered, moveCall, gravityCall, tickCall}
+use Rattle.controls.specs.Keys.{LEFT}
 
 -- a call that answers with s where the number n is none
 module _ (m s : Mine) (n : ℕ) where
@@ -46,7 +46,7 @@ module _ (m : Mine) where
 
   pub tickCall-kept : WellFormed m → Kept m (tickCall m .game)
   unfolding tickCall
-  tickCall-kept w = call-kept m (ticked m) (refusalOf m) w (tick-kept m w)
+  tickCall-kept w = call-kept m (enemiesMoved m) (refusalOf m) w (tick-kept m w)
 
   pub moveCall-formed : (dir : ℕ) → moveCall m dir .refusal ≡ NONE → WellFormed (moveCall m dir .game)
   unfolding moveCall
@@ -60,7 +60,7 @@ module _ (m : Mine) where
 
   pub tickCall-formed : tickCall m .refusal ≡ NONE → WellFormed (tickCall m .game)
   unfolding tickCall
-  tickCall-formed = call-formed m (ticked m) (refusalOf m) (λ e. tick-kept m (accepted m e) .formed)
+  tickCall-formed = call-formed m (enemiesMoved m) (refusalOf m) (λ e. tick-kept m (accepted m e) .formed)
 
   module _ (keys : List ℕ) (time first second : ℕ) where
     pub passAt-kept : WellFormed m → Kept m (passAt m keys time first second .passed .game)

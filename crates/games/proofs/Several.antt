@@ -6,19 +6,19 @@ use Rattle.found.proofs.First.{number-count, nobody-zero}
 use Rattle.found.specs.declared.Found.the-variants.{At, Nobody}
 use Rattle.mine_state.specs.State as Mine
 use Rattle.mine_state.proofs.Alone.{alone}
-use Rattle.cutter_ground.specs.Cells as Cutter
+use Rattle.cutter_ground.specs.Movers as Cutter
 use Rattle.cutter.specs.Question.{whoAt}
 use Rattle.cutter_state.specs.declared.Cutter.{Cutter}
 use Rattle.cutter_state.specs.State.{creatures}
-use Rattle.cutter_rules.specs.Level.{velocity, drawn, freshLevel}
+use Rattle.cutter_rules.specs.Level.{velocity, drawnMover, freshLevel}
 use Rattle.games.specs.Several.{fourDraws, Several}
 
 three : (c : Cutter) → c .level ≡ 4 → whoAt (creatures (freshLevel c fourDraws)) 10 10 ≡ At 1 3
-unfolding table velocity drawn freshLevel
+unfolding table velocity drawnMover freshLevel
 three c e = rw e
 
 elsewhere : (c : Cutter) → c .level ≡ 4 → whoAt (creatures (freshLevel c fourDraws)) 11 10 ≡ Nobody
-unfolding table velocity drawn freshLevel
+unfolding table velocity drawnMover freshLevel
 elsewhere c e = rw e
 
 pub several : Several

@@ -1,7 +1,7 @@
 -- Each promise is one equation with a definition of the inputs, so it is met by one outcome only. Assumes nothing.
 use mathlib.Core.Path.{sym, _∙_}
 use lib.ListN.{take}
-use Rattle.pace.specs.Pace.{started, dueAt, ticked}
+use Rattle.pace.specs.Pace.{started, dueAt, bothTicks}
 use Rattle.frame.specs.Frame.{pageOf}
 use Rattle.mine_rules.specs.Load.{loaded}
 use Rattle.mine_pass.specs.Pass.{passAt}
@@ -58,6 +58,6 @@ tight =
       cutter = cutter-tight;
       start = λ time. determined (started time);
       due = λ time mark interval. determined (dueAt time mark interval);
-      both-ticks = λ time first second interval interval2. determined (ticked time first second interval interval2);
+      both-ticks = λ time first second interval interval2. determined (bothTicks time first second interval interval2);
       page = λ frame p. determined (pageOf frame p);
     }

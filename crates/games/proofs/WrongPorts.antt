@@ -8,17 +8,18 @@ use Rattle.refusal.proofs.Calls.{answered-by}
 use Rattle.mine_state.specs.declared.Mine.{Mine}
 use Rattle.mine_state.specs.State.{purse, emptyAt, freeAt}
 use Rattle.mine_state.specs.WellFormed.{cellsOk, creaturesOk, numbersOk, refusalOf}
-use Rattle.mine_rules.specs.Ways.{RIGHT, LEFT, nextCell}
+use Rattle.mine_rules.specs.Ways.{nextCell}
 use Rattle.mine_rules.specs.Load.{loaded}
 use Rattle.mine_rules.specs.Move.{pushed, met, moved}
 use Rattle.mine_rules.proofs.Start.{drawn, loaded-drawn}
 use Rattle.mine.specs.declared.calls.MineAnswer.{MineAnswer}
 use Rattle.mine.specs.Calls.{refused, answered, moveCall}
-use Rattle.cutter_keeps.specs.Kept.{claimedIn}
 use Rattle.cutter.specs.declared.calls.CutterAnswer.{CutterAnswer}
 use Rattle.games.specs.WrongPorts.{Keeps, Wrong, WrongPorts}
 use Rattle.games.proofs.MineCalls.{moveCall-kept}
 use Rattle.games.proofs.CutterCalls.{step-called}
+use Rattle.cutter_state.specs.State.{claimedIn}
+use Rattle.controls.specs.Keys.{RIGHT, LEFT}
 
 -- to the right where the state is not refused
 goes : (m : Mine) → refusalOf m ≡ NONE → moveCall m RIGHT ≡ answered (moved m RIGHT)

@@ -7,19 +7,18 @@ use lib.IntN.{pos, negsuc}
 use lib.ListN.{set}
 use Rattle.pace.specs.Pace.{dueAt}
 use Rattle.mine_state.specs.declared.Mine.{Mine}
-use Rattle.mine_rules.specs.Ways.{RIGHT}
 use Rattle.mine_rules.specs.Load.{loaded}
 use Rattle.mine_rules.specs.Move.{moved}
-use Rattle.mine_rules.specs.Tick.{ticked}
+use Rattle.mine_rules.specs.Tick.{enemiesMoved}
 use Rattle.mine_rules.specs.Cases.{P1, P4, P5, P6, P7, P8}
-use Rattle.cutter_ground.specs.Cells.{CB-FILLED}
+use Rattle.cutter_ground.specs.Cells.{CB-FILLED, place}
 use Rattle.cutter_state.specs.declared.Cutter.{Cutter}
-use Rattle.cutter_state.specs.State.{place, creatures}
+use Rattle.cutter_state.specs.State.{creatures, blackIn, claimedIn}
 use Rattle.cutter_state.specs.Change.{withGrid}
 use Rattle.cutter_rules.specs.Level.{freshGrid, freshLevel}
-use Rattle.cutter_rules.specs.Step.{DOWN, directed, stepped}
+use Rattle.cutter_rules.specs.Step.{directed, stepped}
 use Rattle.cutter_rules.specs.Tick.{enemiesStepped}
-use Rattle.cutter_keeps.specs.Kept.{blackIn, claimedIn}
+use Rattle.controls.specs.Keys.{RIGHT, DOWN}
 
 -- a fresh level, down 31 steps
 abbrev pub again : ℕ → (Cutter → Cutter) → Cutter → Cutter
@@ -40,7 +39,7 @@ pub record Cases : Type 0 where
   -- load, right three times: (4,1), 1 coin
   pub p2 : let m : Mine = moved (moved (moved loaded RIGHT) RIGHT) RIGHT in (m .px ≡ 4) × (m .py ≡ 1) × (m .coins ≡ 1)
   -- load, creature tick: no change
-  pub p3 : ticked loaded ≡ loaded
+  pub p3 : enemiesMoved loaded ≡ loaded
   -- on small mines (mine_rules/specs/Cases.antt): gravity, a marked coin walked into, A squashed of A, B, C
   pub p4 : P4
   pub p5 : P5

@@ -7,13 +7,14 @@ use Rattle.refusal.specs.Refusal.{NONE}
 use Rattle.pace.specs.declared.Pace.{Pace}
 use Rattle.cutter_state.specs.declared.Cutter.{Cutter}
 use Rattle.cutter_state.specs.WellFormed.{WellFormed}
-use Rattle.cutter_keeps.specs.Kept.{claimedIn, Fresh}
+use Rattle.cutter_keeps.specs.Kept.{Fresh}
 use Rattle.cutter_keeps.specs.Steps.{Accounts}
 use Rattle.cutter_pass.specs.Pass.{passAt}
 use Rattle.cutter.specs.declared.calls.CutterAnswer.{CutterAnswer}
 use Rattle.cutter.specs.Calls.{roundCall, levelCall, directionCall, stepCall, sweepsCall, enemiesCall, respawnCall}
 use Rattle.cutter.specs.Turn.{passOf}
 use Rattle.games.specs.CutterCalls.{CutterCall, Play, called, after, goesOn, claims, loses}
+use Rattle.cutter_state.specs.State.{claimedIn}
 
 pub record CutterAccounts : Type 0 where
   -- what a call that starts a level leaves is fresh, whatever state came

@@ -10,7 +10,7 @@ use Rattle.mine_state.specs.State as Mine
 use Rattle.mine_state.specs.WellFormed.{Alone}
 use Rattle.mine_state.specs.declared.Enemy.{Enemy}
 use Rattle.mine.specs.Question as MineQuestion
-use Rattle.cutter_ground.specs.Cells as Cutter
+use Rattle.cutter_ground.specs.Movers as Cutter
 use Rattle.cutter_ground.specs.declared.Mover.{Mover}
 use Rattle.cutter.specs.Question as CutterQuestion
 use Rattle.cutter_state.specs.declared.Cutter.{Cutter}

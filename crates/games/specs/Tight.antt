@@ -4,7 +4,7 @@ use mathlib.Core.Path.{_≡_}
 use Prim.Native.Nat.{ℕ}
 use lib.ListN.{take}
 use Rattle.pace.specs.declared.Pace.{Pace}
-use Rattle.pace.specs.Pace.{started, dueAt, ticked}
+use Rattle.pace.specs.Pace.{started, dueAt, bothTicks}
 use Rattle.frame.specs.Frame.{pageOf}
 use Rattle.mine_state.specs.declared.Mine.{Mine}
 use Rattle.mine_state.specs.declared.Enemy.{Enemy}
@@ -60,6 +60,6 @@ pub record Tight : Type 0 where
   -- the pacing record
   pub start : (time : ℕ) → Determined (started time)
   pub due : (time mark interval : ℕ) → Determined (dueAt time mark interval)
-  pub both-ticks : (time first second interval interval2 : ℕ) → Determined (ticked time first second interval interval2)
+  pub both-ticks : (time first second interval interval2 : ℕ) → Determined (bothTicks time first second interval interval2)
   -- the frame
   pub page : (frame : List ℕ) (p : ℕ) → Determined (pageOf frame p)

@@ -10,10 +10,10 @@ use Rattle.mine.specs.declared.calls.MineAnswer.{MineAnswer}
 use Rattle.mine.specs.Calls.{moveCall}
 use Rattle.cutter_state.specs.declared.Cutter.{Cutter}
 use Rattle.cutter_state.specs.WellFormed as WF
-use Rattle.cutter_keeps.specs.Kept.{claimedIn}
 use Rattle.cutter_keeps.specs.Steps.{stepClaims}
 use Rattle.cutter.specs.declared.calls.CutterAnswer.{CutterAnswer}
 use Rattle.cutter.specs.Calls.{stepCall}
+use Rattle.cutter_state.specs.State.{claimedIn}
 
 module _ (port : Mine → ℕ → MineAnswer) where
   abbrev pub Keeps : Type 0

@@ -4,7 +4,7 @@ use mathlib.Core.Path.{_≡_, refl, sym, ap, _∙_}
 use Prim.Native.Nat.{ℕ, _+_, _<_, _≤_}
 use lib.ListN.{length, drop, getD, drop-of-length-le}
 use Rattle.laws.proofs.Lists.{drop-one}
-use Rattle.text.specs.Puts.{Puts}
+use Rattle.text.specs.CodePuts.{Puts}
 use Rattle.text.proofs.Puts.{puts-none, puts-both}
 use Rattle.lines.specs.Runs.{after, linesOf}
 

@@ -8,17 +8,17 @@ use lib.Dec.{eqb}
 use Rattle.laws.specs.Lists.{bit, tally}
 use Rattle.refusal.specs.Refusal.{COMMAND, refusedOr}
 use Rattle.text.specs.Text.{NEWLINE, lineOf}
-use Rattle.text.specs.Puts.{Puts}
+use Rattle.text.specs.CodePuts.{Puts}
 use Rattle.text.specs.declared.Says.{Says}
 use Rattle.text.specs.declared.Says.the-variants.{Nothing, Numbers, Refused}
 use Rattle.cutter_ground.specs.Cells.{CB-FILLED, CB-TRAIL, blackCount}
 use Rattle.cutter_state.specs.declared.Cutter.{Cutter}
-use Rattle.cutter_rules.specs.Step.{UP, RIGHT, DOWN, LEFT}
 use Rattle.cutter.specs.declared.calls.CutterAnswer.{CutterAnswer}
 use Rattle.cutter.specs.Calls.{roundCall, directionCall, stepCall, enemiesCall, respawnCall}
 use Rattle.lines.specs.declared.cuts.CutSaid.{CutSaid}
 use Rattle.lines.specs.declared.cuts.CutRun.{CutRun}
 use Rattle.lines.specs.Runs.{BAR, after, linesOf}
+use Rattle.controls.specs.Keys.{UP, RIGHT, DOWN, LEFT}
 
 -- level 1, 3 lives, with one creature at (10,10), velocity (1,1): a new round by these draws
 unfoldable pub cutStart : Cutter

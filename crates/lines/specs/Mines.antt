@@ -8,17 +8,17 @@ use lib.Dec.{eqb}
 use Rattle.laws.specs.Lists.{bit}
 use Rattle.refusal.specs.Refusal.{COMMAND, refusedOr}
 use Rattle.text.specs.Text.{NEWLINE, lineOf}
-use Rattle.text.specs.Puts.{Puts}
+use Rattle.text.specs.CodePuts.{Puts}
 use Rattle.text.specs.declared.Says.{Says}
 use Rattle.text.specs.declared.Says.the-variants.{Nothing, Numbers, Refused}
 use Rattle.mine_state.specs.declared.Mine.{Mine}
-use Rattle.mine_rules.specs.Ways.{UP, RIGHT, DOWN, LEFT}
 use Rattle.mine_rules.specs.Load.{loaded}
 use Rattle.mine.specs.declared.calls.MineAnswer.{MineAnswer}
 use Rattle.mine.specs.Calls.{moveCall, gravityCall, tickCall}
 use Rattle.lines.specs.declared.mines.MineSaid.{MineSaid}
 use Rattle.lines.specs.declared.mines.MineRun.{MineRun}
 use Rattle.lines.specs.Runs.{BAR, after, linesOf}
+use Rattle.controls.specs.Keys.{UP, RIGHT, DOWN, LEFT}
 
 -- a line: x, y, coins, needed, creatures, dead, won
 abbrev pub mineNumbers : Mine → List ℕ

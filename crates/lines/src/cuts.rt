@@ -1,14 +1,14 @@
 // What `cuts` does with a byte, and with a run of bytes.
 use crate::BAR;
+use controls::DOWN;
+use controls::LEFT;
+use controls::RIGHT;
+use controls::UP;
 use cutter::CutterAnswer;
 use cutter_ground::CB_FILLED;
 use cutter_ground::CB_TRAIL;
 use cutter_ground::black_count;
 use cutter_ground::count_of;
-use cutter_rules::DOWN;
-use cutter_rules::LEFT;
-use cutter_rules::RIGHT;
-use cutter_rules::UP;
 use cutter_state::Cutter;
 use text::NUMBERS;
 use text::Says;

@@ -1,10 +1,10 @@
 // What `mines` does with a byte, and with a run of bytes.
 use crate::BAR;
+use controls::DOWN;
+use controls::LEFT;
+use controls::RIGHT;
+use controls::UP;
 use mine::MineAnswer;
-use mine_rules::DOWN;
-use mine_rules::LEFT;
-use mine_rules::RIGHT;
-use mine_rules::UP;
 use mine_state::Mine;
 use text::NUMBERS;
 use text::Says;

@@ -4,11 +4,11 @@ use lib.Dec.{leb}
 use Rattle.refusal.specs.Refusal.{NONE, COMMAND, unless, _then_, refusedOr}
 use Rattle.mine_state.specs.declared.Mine.{Mine}
 use Rattle.mine_state.specs.WellFormed.{refusalOf}
-use Rattle.mine_rules.specs.Ways.{LEFT}
 use Rattle.mine_rules.specs.Move.{moved}
-use Rattle.mine_rules.specs.Tick.{ticked}
+use Rattle.mine_rules.specs.Tick.{enemiesMoved}
 use Rattle.mine_rules.specs.Gravity.{gravityOf}
 use Rattle.mine.specs.declared.calls.MineAnswer.{MineAnswer}
+use Rattle.controls.specs.Keys.{LEFT}
 
 -- a refused call returns the number and the state it got
 abbrev pub refused : Mine → ℕ → MineAnswer
@@ -28,4 +28,4 @@ gravityCall m = refusedOr (refusalOf m) (refused m) (answered (gravityOf m))
 
 -- creature tick
 unfoldable pub tickCall : Mine → MineAnswer
-tickCall m = refusedOr (refusalOf m) (refused m) (answered (ticked m))
+tickCall m = refusedOr (refusalOf m) (refused m) (answered (enemiesMoved m))

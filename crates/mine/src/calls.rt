@@ -1,6 +1,6 @@
 // The calls on a state: each checks it once, and refuses it or plays.
+use controls::LEFT;
 use mine_check::check;
-use mine_rules::LEFT;
 use mine_state::Mine;
 use refusal::Refusal;
 ghost use mathlib.Core.Path.{_≡_};

@@ -13,7 +13,7 @@ use Rattle.found.specs.declared.Found.the-variants.{At, Nobody}
 use Rattle.found.proofs.First.{first-here, first-more, first-none}
 use Rattle.mine_state.specs.declared.Enemy.{Enemy}
 use Rattle.mine_state.specs.State.{MAX-ENEMIES, standsAt, blankSlot}
-use Rattle.mine_apart.specs.Apart.{xOf, yOf, dirOf, joined, holds, Apart, FirstSlot}
+use Rattle.mine_apart.specs.CodeApart.{xOf, yOf, dirOf, joined, holds, Apart, FirstSlot}
 
 -- taken apart and put together
 pub joined-parts : (es : List Enemy) → joined (map xOf es) (map yOf es) (map dirOf es) ≡ es

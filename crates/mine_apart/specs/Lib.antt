@@ -1,1 +1,1 @@
-pub mod Apart
+pub mod CodeApart

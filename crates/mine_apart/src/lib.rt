@@ -8,7 +8,7 @@ use mine_state::MAX_ENEMIES;
 use mine_state::W;
 ghost use mathlib.Core.List.{map};
 ghost use mathlib.Core.Path.{_≡_};
-ghost use Rattle.mine_apart.specs.Apart.{xOf, yOf, dirOf, joined, Apart, Peopled, Lent, FirstSlot, Slotted, Sees, Numbers, Frees};
+ghost use Rattle.mine_apart.specs.CodeApart.{xOf, yOf, dirOf, joined, Apart, Peopled, Lent, FirstSlot, Slotted, Sees, Numbers, Frees};
 
 // As many creatures as the level has. A loop over as many slots, and one over the rest, is compiled without a counter.
 const FEW: usize = 2;

@@ -17,8 +17,8 @@ ghost use lib.Dec.{leb};
 ghost use lib.ListN.{length, take, drop};
 ghost use Rattle.laws.specs.Lists.{all, any, count};
 ghost use Rattle.mine_state.specs.State.{AREA, MAX-ENEMIES, emptyAt, standsAt, isCoin, isCode};
-ghost use Rattle.mine_state.specs.WellFormed.{creatureOk, apart, blank, refusalOf};
-ghost use Rattle.mine_check.specs.Passes.{Counted, Part};
+ghost use Rattle.mine_state.specs.WellFormed.{creatureOk, apart, isBlank, refusalOf};
+ghost use Rattle.mine_check.specs.CodePasses.{Counted, Part};
 
 // Every cell holds a code from EMPTY to EXIT.
 fn codes_ok(grid: &[u8; AREA]) -> bool
@@ -105,7 +105,7 @@ fn all_apart(enemies: [Enemy; MAX_ENEMIES], n: usize) -> bool
 }
 
 fn is_blank(e: Enemy) -> bool
-    ensures { λ r. ⌜ r ≡ blank e ⌝ }
+    ensures { λ r. ⌜ r ≡ isBlank e ⌝ }
 {
     (e.x == 0) & (e.y == 0) & (e.dir == 0)
 }
@@ -113,7 +113,7 @@ fn is_blank(e: Enemy) -> bool
 // The slots past the count hold zeros.
 fn rest_blank(enemies: [Enemy; MAX_ENEMIES], n: usize) -> bool
     requires { ⌜ n ≤ MAX-ENEMIES ⌝ }
-    ensures { λ r. ⌜ r ≡ all blank (drop n enemies) ⌝ }
+    ensures { λ r. ⌜ r ≡ all isBlank (drop n enemies) ⌝ }
 {
     let mut i = n;
     while i < MAX_ENEMIES {
@@ -144,7 +144,7 @@ pub fn coin_count(grid: &[u8; AREA]) -> u16
 
 fn creatures_ok(grid: &[u8; AREA], enemies: [Enemy; MAX_ENEMIES], n: usize) -> bool
     requires { ⌜ length (now grid) ≡ AREA ⌝ }
-    ensures { λ r. ⌜ r ≡ (leb n MAX-ENEMIES && all (creatureOk (now (grid .entry))) (take n enemies) && apart (take n enemies) && all blank (drop n enemies)) ⌝ }
+    ensures { λ r. ⌜ r ≡ (leb n MAX-ENEMIES && all (creatureOk (now (grid .entry))) (take n enemies) && apart (take n enemies) && all isBlank (drop n enemies)) ⌝ }
 {
     if MAX_ENEMIES < n {
         return false;

@@ -11,11 +11,11 @@ use Rattle.found.specs.First.{nobody}
 use Rattle.found.specs.declared.Found.{Found}
 use Rattle.mine_state.specs.declared.Mine.{Mine}
 use Rattle.mine_state.specs.State.{W, H, EMPTY, place, codeIn, codeAt, emptyAt, playerAt, firstAt}
-use Rattle.mine_fall.specs.Spots.{firstSpot, freeSpot, Stand}
+use Rattle.mine_fall.specs.CodeSpots.{firstSpot, freeSpot, Stand}
 use Rattle.mine_state.proofs.Cells.{empty-inside}
 use Rattle.mine_fall.proofs.Places.{free-spot, player-spot, first-spot}
 use Rattle.mine_rules.specs.Gravity.{isObject, rested, openSide, overOther, cellFall}
-use Rattle.mine_fall.specs.Falls.{Quietly, openSpot, lent}
+use Rattle.mine_fall.specs.CodeFalls.{Quietly, openSpot, lent}
 
 below-but : (j x : ℕ) → j < x + 1 → (j ≡ x → ⊥) → j < x
 below-but j x h a = omega arith

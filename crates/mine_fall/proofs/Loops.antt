@@ -8,12 +8,12 @@ use Rattle.laws.specs.Lists.{across, downTo}
 use Rattle.laws.proofs.Folds.{across-more, across-end, across-still, down-more, down-end}
 use Rattle.mine_state.specs.declared.Mine.{Mine}
 use Rattle.mine_state.specs.State.{W, place, codeAt}
-use Rattle.mine_fall.specs.Spots.{spotsFrom, Stand}
-use Rattle.mine_state.specs.WellFormed.{Sound}
+use Rattle.mine_fall.specs.CodeSpots.{spotsFrom, Stand}
 use Rattle.mine_rules.specs.Gravity.{isObject, cellFall, rowFall}
-use Rattle.mine_fall.specs.Falls.{Quietly}
+use Rattle.mine_fall.specs.CodeFalls.{Quietly}
 use Rattle.mine_rules.proofs.GravityKeeps.{cell-keeps}
 use Rattle.mine_rules.proofs.GravitySound.{sound-keeps}
+use Rattle.mine_state.specs.CodeState.{Sound}
 
 abbrev cellOf : ℕ → Mine → ℕ → Mine
 cellOf y s x = cellFall s x y

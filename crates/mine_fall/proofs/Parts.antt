@@ -8,16 +8,16 @@ use lib.Dec.{ltb}
 use lib.ListN.{length, getD, set, length-set}
 use Rattle.mine_state.specs.declared.Mine.{Mine}
 use Rattle.mine_state.specs.declared.Enemy.{Enemy}
-use Rattle.mine_state.specs.State.{AREA, MAX-ENEMIES, place, blankSlot, onMap, allOnMap}
-use Rattle.mine_fall.specs.Spots.{spotOr, spotsFrom}
-use Rattle.mine_state.specs.WellFormed.{Sound}
+use Rattle.mine_state.specs.State.{AREA, MAX-ENEMIES, place, blankSlot}
+use Rattle.mine_fall.specs.CodeSpots.{spotOr, spotsFrom}
 use Rattle.mine_state.proofs.Creatures.{map-inside, slot-on-map}
 use Rattle.mine_fall.proofs.Places.{spot-slot, length-spots}
-use Rattle.mine_apart.specs.Apart.{joined, Apart}
+use Rattle.mine_apart.specs.CodeApart.{joined, Apart}
 use Rattle.mine_apart.proofs.Joined.{length-joined, joined-at, joined-set}
 use Rattle.mine_rules.specs.Gravity.{without}
 use Rattle.mine_fall.specs.declared.Fallen.{Fallen}
-use Rattle.mine_fall.specs.Places.{Placed, left, whole}
+use Rattle.mine_fall.specs.CodePlaces.{Placed, left, whole}
+use Rattle.mine_state.specs.CodeState.{onMap, allOnMap, Sound}
 
 -- a state, where it doesn't matter which
 abbrev pub nothing : Mine

@@ -14,10 +14,11 @@ use Rattle.found.specs.declared.Found.the-variants.{At, Nobody}
 use Rattle.found.proofs.First.{from-number}
 use Rattle.mine_state.specs.declared.Mine.{Mine}
 use Rattle.mine_state.specs.declared.Enemy.{Enemy}
-use Rattle.mine_state.specs.State.{onMap, allOnMap, W, H, AREA, place, standsAt, firstAt, playerAt, emptyAt, freeAt, blankSlot}
-use Rattle.mine_fall.specs.Spots.{spotOr, spotsFrom, isSpot, firstSpot, freeSpot, Spotted, Stand}
+use Rattle.mine_state.specs.State.{W, H, AREA, place, standsAt, firstAt, playerAt, emptyAt, freeAt, blankSlot}
+use Rattle.mine_fall.specs.CodeSpots.{spotOr, spotsFrom, isSpot, firstSpot, freeSpot, Spotted, Stand}
 use Rattle.mine_state.proofs.Cells.{same-place, empty-inside}
 use Rattle.mine_state.proofs.Creatures.{found-below, map-inside}
+use Rattle.mine_state.specs.CodeState.{onMap, allOnMap}
 
 -- no creature's place is AREA
 off-place : (x y : ℕ) → x < W → y < H → isSpot (place x y) AREA ≡ false

@@ -1,3 +1,3 @@
-pub mod Spots
-pub mod Falls
-pub mod Places
+pub mod CodeSpots
+pub mod CodeFalls
+pub mod CodePlaces

@@ -12,11 +12,12 @@ use mine_state::W;
 ghost use mathlib.Core.Bool.{true, false};
 ghost use mathlib.Core.Path.{_≡_};
 ghost use Prim.Native.Nat.{_<_, _+_};
-ghost use Rattle.mine_state.specs.State.{W, CellOf};
-ghost use Rattle.mine_fall.specs.Spots.{Lent};
+ghost use Rattle.mine_state.specs.State.{W};
+ghost use Rattle.mine_fall.specs.CodeSpots.{Lent};
 ghost use Rattle.mine_fall.specs.declared.cells.Fell.the-variants.{Quiet};
 ghost use Rattle.mine_rules.specs.Gravity.{isObject, carried, overPlayer, overEmpty, rolled, cellFall};
-ghost use Rattle.mine_fall.specs.Falls.{LentCell, LentCells, Reached, openSpot, Quietly, Does, Falls};
+ghost use Rattle.mine_fall.specs.CodeFalls.{LentCell, LentCells, Reached, openSpot, Quietly, Does, Falls};
+ghost use Rattle.mine_state.specs.CodeState.{CellOf};
 
 // What an object did, beside moving.
 pub enum Fell {

@@ -20,9 +20,9 @@ use mine_state::MAX_ENEMIES;
 use mine_state::Mine;
 use mine_state::W;
 ghost use mathlib.Core.Path.{_≡_};
-ghost use Rattle.mine_state.specs.WellFormed.{Sound};
 ghost use Rattle.mine_rules.specs.Gravity.{gravityOf};
-ghost use Rattle.mine_fall.specs.Places.{Slots, left, Falling, Dropped};
+ghost use Rattle.mine_fall.specs.CodePlaces.{Slots, left, Falling, Dropped};
+ghost use Rattle.mine_state.specs.CodeState.{Sound};
 
 // What a tick changes beside the lent arrays.
 #[repr(C)]

@@ -10,8 +10,8 @@ ghost use mathlib.Core.Path.{_≡_};
 ghost use lib.ListN.{length, drop};
 ghost use Rattle.laws.specs.Lists.{count};
 ghost use Rattle.mine_state.specs.State.{AREA, MAX-ENEMIES};
-ghost use Rattle.mine_fall.specs.Spots.{isSpot, firstSpot, freeSpot, Lent};
-ghost use Rattle.mine_fall.specs.Places.{Placed, Spots};
+ghost use Rattle.mine_fall.specs.CodeSpots.{isSpot, firstSpot, freeSpot, Lent};
+ghost use Rattle.mine_fall.specs.CodePlaces.{Placed, Spots};
 
 // The place of a creature that is there, and AREA, which is no place, for a slot past the count.
 fn spot_or(there: bool, at: usize) -> usize

@@ -19,7 +19,7 @@ use Rattle.mine_state.specs.declared.Mine.{Mine}
 use Rattle.mine_state.specs.declared.Enemy.{Enemy}
 use Rattle.mine_state.specs.State.{AREA, MAX-ENEMIES, EMPTY, COIN, isCode, isCoin, isBoulder, place, codeIn, codeAt, emptyAt, playerAt, creatures, standsAt, firstAt, freeAt, purse, boulders}
 use Rattle.mine_state.specs.Change.{withGrid, withMarks, withPlayer, withCreatures, withCreature, withCoins, killed, winner, withCell}
-use Rattle.mine_state.specs.WellFormed.{WellFormed, creatureOk, apart, blank}
+use Rattle.mine_state.specs.WellFormed.{WellFormed, creatureOk, apart, isBlank}
 use Rattle.mine_state.proofs.Cells.{free-inside, free-empty, free-is-empty}
 use Rattle.mine_state.proofs.Creatures.{found-below}
 use Rattle.mine_rules.specs.Gravity.{without}
@@ -120,7 +120,7 @@ module _ {m s : Mine} (k : Kept m s) where
       (shifted-count g i nx ny (h .0) isBoulder refl b z)
 
   -- other creatures on the same ground
-  kept-creatures : (es : List Enemy) (n : ℕ) → length es ≡ MAX-ENEMIES → n ≤ MAX-ENEMIES → all (creatureOk (s .grid)) (take n es) ≡ true → apart (take n es) ≡ true → all blank (drop n es) ≡ true → Kept m (withCreatures s es n)
+  kept-creatures : (es : List Enemy) (n : ℕ) → length es ≡ MAX-ENEMIES → n ≤ MAX-ENEMIES → all (creatureOk (s .grid)) (take n es) ≡ true → apart (take n es) ≡ true → all isBlank (drop n es) ≡ true → Kept m (withCreatures s es n)
   kept-creatures es n l f a b c =
       record {
         formed = record { cells = w .cells; marks = w .marks; codes = w .codes; player = w .player; slots = l; few = f; each = a; distinct = b; rest = c; coins = w .coins; asked = w .asked };

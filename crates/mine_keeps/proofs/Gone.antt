@@ -14,7 +14,7 @@ use Rattle.found.specs.First.{first}
 use Rattle.found.specs.declared.Found.the-variants.{At}
 use Rattle.mine_state.specs.declared.Enemy.{Enemy}
 use Rattle.mine_state.specs.State.{standsAt, blankSlot}
-use Rattle.mine_state.specs.WellFormed.{apart, blank}
+use Rattle.mine_state.specs.WellFormed.{apart, isBlank}
 use Rattle.mine_keeps.proofs.Creatures.{apart-set, apart-last, found-gone}
 
 module _ (l : List Enemy) (n i : ℕ) (h : i < n) (k : n ≤ length l) where
@@ -53,7 +53,7 @@ module _ (l : List Enemy) (n i : ℕ) (h : i < n) (k : n ≤ length l) where
       let z : i ≡ 0 + i = omega arith in
       rw after (found-gone x y 0 i k front last (rw before at a) (ap (first (standsAt x y)) (sym before) ∙ e ∙ ap (λ (j : ℕ). At j k) z))
 
-  pub gone-rest : all blank (drop n l) ≡ true → all blank (drop (n - 1) slots) ≡ true
+  pub gone-rest : all isBlank (drop n l) ≡ true → all isBlank (drop (n - 1) slots) ≡ true
   gone-rest a =
       let s : suc (n - 1) ≡ n = omega arith in
       let r : drop (suc (n - 1)) slots ≡ drop n l = ap (λ (j : ℕ). drop j slots) s ∙ drop-set-lt n (set l i last) (n - 1) blankSlot (omega arith) ∙ drop-set-lt n l i last h in

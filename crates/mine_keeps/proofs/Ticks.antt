@@ -22,7 +22,7 @@ use Rattle.mine_rules.specs.declared.Ahead.the-variants.{Cell, Off}
 use Rattle.mine_rules.specs.declared.Step.{Step}
 use Rattle.mine_rules.specs.declared.Step.the-variants.{Goes, Stays}
 use Rattle.mine_rules.specs.Ways.{nextCell}
-use Rattle.mine_rules.specs.Tick.{goesTo, wayOf, turns, orElse, chosen, caught, stepped, tickOne, ticked}
+use Rattle.mine_rules.specs.Tick.{goesTo, wayOf, turns, orElse, chosen, caught, creatureStepped, tickOne, enemiesMoved}
 use Rattle.mine_keeps.specs.Kept.{Kept}
 use Rattle.mine_keeps.proofs.Changes.{kept-self, kept-killed, kept-creature}
 
@@ -56,14 +56,14 @@ lands-chosen s e (t ∷ ts) =
 abbrev Kept-all : Mine → Mine → Type 0
 Kept-all m s = Kept m s × (s .count ≡ m .count)
 
-kept-stepped : (m s : Mine) (i : ℕ) (t : Step) → i < m .count → Lands s t → Kept-all m s → Kept-all m (stepped s i t)
+kept-stepped : (m s : Mine) (i : ℕ) (t : Step) → i < m .count → Lands s t → Kept-all m s → Kept-all m (creatureStepped s i t)
 kept-stepped m s i Stays h l k = k
 kept-stepped m s i (Goes e) h l k =
     let a : Kept m (withCreature s i e) = kept-creature (k .0) i e (omega (arith, k .1)) (l .0) (l .1) in
     cond-both (Kept-all m) (playerAt (withCreature s i e) (e .x) (e .y)) _ _ (λ _. (kept-killed a, k .1)) (λ _. (a, k .1))
 
-pub tick-kept : (m : Mine) → WellFormed m → Kept m (ticked m)
-unfolding ticked tickOne
+pub tick-kept : (m : Mine) → WellFormed m → Kept m (enemiesMoved m)
+unfolding enemiesMoved tickOne
 tick-kept m w =
     across-keeps tickOne (Kept-all m) (m .count) (m .count) 0 m (omega arith)
     (λ s i h k. kept-stepped m s i (chosen s (getD (s .enemies) i blankSlot) turns) h (lands-chosen s (getD (s .enemies) i blankSlot) turns) k)

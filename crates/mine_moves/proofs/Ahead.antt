@@ -11,8 +11,10 @@ use Rattle.laws.proofs.Choice.{or-left, or-right}
 use Rattle.mine_state.specs.State.{W, H}
 use Rattle.mine_rules.specs.declared.Ahead.{Ahead}
 use Rattle.mine_rules.specs.declared.Ahead.the-variants.{Cell, Off}
-use Rattle.mine_rules.specs.Ways.{UP, RIGHT, DOWN, LEFT, cellIf, nextCell, OnGrid}
-use Rattle.mine_moves.specs.Steps.{rightOf, downOf}
+use Rattle.mine_rules.specs.Ways.{cellIf, nextCell}
+use Rattle.mine_moves.specs.CodeSteps.{rightOf, downOf}
+use Rattle.mine_rules.specs.CodeWays.{OnGrid}
+use Rattle.controls.specs.Keys.{UP, RIGHT, DOWN, LEFT}
 
 -- a direction, or the last for all that are past it
 module _ (d : ℕ) {l : ℕ} (e : l ≡ cond (ltb d LEFT) d LEFT) where

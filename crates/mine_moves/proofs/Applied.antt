@@ -11,9 +11,9 @@ use Rattle.mine_state.specs.State.{EMPTY, BOULDER, place, emptyAt, codeIn, firs
 use Rattle.mine_state.specs.Change.{withGrid, withCell, entered, killed, winner}
 use Rattle.mine_state.proofs.Cells.{empty-code}
 use Rattle.mine_rules.specs.Move.{collected}
-use Rattle.mine_apart.specs.Apart.{Sees, Frees}
+use Rattle.mine_apart.specs.CodeApart.{Sees, Frees}
 use Rattle.mine_moves.specs.declared.moves.Move.{Move}
-use Rattle.mine_moves.specs.Steps.{gone, applied, Plays}
+use Rattle.mine_moves.specs.CodeSteps.{gone, applied, Plays}
 
 -- the same with other coins, dead, won, or a boulder at a cell
 abbrev pub richer : Move → ℕ → Move

@@ -13,7 +13,7 @@ use Rattle.mine_state.specs.declared.Mine.{Mine}
 use Rattle.mine_state.specs.declared.Enemy.{Enemy}
 use Rattle.mine_state.specs.State.{W, AREA, isCoin}
 use Rattle.mine_state.specs.Change.{withGrid, withPlayer, withCreatures}
-use Rattle.mine_rules.specs.Load.{tileOf, joined, settled, readAt, unread, quarters, withNeeded, asking, readFrom, mineOf}
+use Rattle.mine_rules.specs.Load.{tileOf, withOneMore, settled, readAt, unread, quarters, withNeeded, asking, readFrom, mineOf}
 
 -- the state so far, of which the reading changes these parts
 abbrev pub soFar : List ℕ → ℕ → ℕ → List Enemy → ℕ → Mine
@@ -22,8 +22,8 @@ soFar g x y es n = withCreatures (withPlayer (withGrid unread g) x y) es n
 -- neither `P` nor `E`
 settled-none : (m : Mine) (c x y : ℕ) → eqb c (code "P") ≡ false → eqb c (code "E") ≡ false → settled m c x y ≡ m
 settled-none m c x y a b =
-    ap (λ (t : Bool). cond t (withPlayer m x y) (cond (eqb c (code "E")) (joined m x y) m)) a
-    ∙ ap (λ (t : Bool). cond t (joined m x y) m) b
+    ap (λ (t : Bool). cond t (withPlayer m x y) (cond (eqb c (code "E")) (withOneMore m x y) m)) a
+    ∙ ap (λ (t : Bool). cond t (withOneMore m x y) m) b
 
 module _ (text : List ℕ) (m : Mine) (i t : ℕ) (q : t ≡ tileOf (getD text i 0)) where
   abbrev laid : Mine
@@ -36,7 +36,7 @@ module _ (text : List ℕ) (m : Mine) (i t : ℕ) (q : t ≡ tileOf (getD text i
   pub read-player : getD text i 0 ≡ code "P" → readAt text m i ≡ withPlayer laid (i % W) (i / W)
   read-player e = tiled ∙ ap (λ (c : ℕ). settled laid c (i % W) (i / W)) e
 
-  pub read-creature : getD text i 0 ≡ code "E" → readAt text m i ≡ joined laid (i % W) (i / W)
+  pub read-creature : getD text i 0 ≡ code "E" → readAt text m i ≡ withOneMore laid (i % W) (i / W)
   read-creature e = tiled ∙ ap (λ (c : ℕ). settled laid c (i % W) (i / W)) e
 
   pub read-tile : (getD text i 0 ≡ code "P" → ⊥) → (getD text i 0 ≡ code "E" → ⊥) → readAt text m i ≡ laid

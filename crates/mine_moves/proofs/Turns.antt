@@ -15,7 +15,7 @@ use Rattle.found.specs.First.{first, nobody}
 use Rattle.found.specs.declared.Found.the-variants.{At, Nobody}
 use Rattle.mine_state.specs.declared.Mine.{Mine}
 use Rattle.mine_state.specs.declared.Enemy.{Enemy}
-use Rattle.mine_state.specs.State.{W, H, EMPTY, codeIn, emptyAt, standsAt, firstAt, onMap, allOnMap}
+use Rattle.mine_state.specs.State.{W, H, EMPTY, codeIn, emptyAt, standsAt, firstAt}
 use Rattle.mine_state.specs.Change.{withCreature}
 use Rattle.mine_state.proofs.Cells.{code-empty}
 use Rattle.mine_state.proofs.Creatures.{map-inside, slot-on-map}
@@ -23,12 +23,14 @@ use Rattle.mine_rules.specs.declared.Ahead.{Ahead}
 use Rattle.mine_rules.specs.declared.Ahead.the-variants.{Cell, Off}
 use Rattle.mine_rules.specs.declared.Step.{Step}
 use Rattle.mine_rules.specs.declared.Step.the-variants.{Goes, Stays}
-use Rattle.mine_rules.specs.Ways.{nextCell, OnGrid}
-use Rattle.mine_rules.specs.Tick.{goesTo, wayOf, turns, orElse, chosen, stepped, tickOne, ticked}
+use Rattle.mine_rules.specs.Ways.{nextCell}
+use Rattle.mine_rules.specs.Tick.{goesTo, wayOf, turns, orElse, chosen, creatureStepped, tickOne, enemiesMoved}
 use Rattle.mine_rules.proofs.Next.{next-inside}
-use Rattle.mine_apart.specs.Apart.{joined, standing, Apart}
+use Rattle.mine_apart.specs.CodeApart.{joined, standing, Apart}
 use Rattle.mine_apart.proofs.Joined.{joined-at, joined-set}
-use Rattle.mine_moves.specs.Steps.{deadIf}
+use Rattle.mine_moves.specs.CodeSteps.{deadIf}
+use Rattle.mine_state.specs.CodeState.{onMap, allOnMap}
+use Rattle.mine_rules.specs.CodeWays.{OnGrid}
 
 -- the cell ahead, as the code asks for it
 module _ (m : Mine) {g : List ℕ} {es : List Enemy} {n : ℕ} (same : m .grid ≡ g) (them : m .enemies ≡ es) (many : m .count ≡ n) (d x y : ℕ) (on : OnGrid x y) where
@@ -106,8 +108,8 @@ pub record Between (g : List ℕ) (n px py : ℕ) (R : Mine → Mine) (xs ys ds 
   pub placed : allOnMap (joined xs ys ds) ≡ true
   pub same : (m : Mine) → across tickOne (n - i) i (soFar g n px py xs ys ds b m) ≡ R m
 
-pub begins : (g : List ℕ) (n px py : ℕ) (xs ys ds : List ℕ) → Apart xs ys ds → allOnMap (joined xs ys ds) ≡ true → Between g n px py (λ m. ticked (standing m g (joined xs ys ds) n px py)) xs ys ds false 0
-unfolding ticked
+pub begins : (g : List ℕ) (n px py : ℕ) (xs ys ds : List ℕ) → Apart xs ys ds → allOnMap (joined xs ys ds) ≡ true → Between g n px py (λ m. enemiesMoved (standing m g (joined xs ys ds) n px py)) xs ys ds false 0
+unfolding enemiesMoved
 begins g n px py xs ys ds a p =
     let q : n - 0 ≡ n = omega arith in
     record { parts = a; placed = p; same = λ m. ap (λ (k : ℕ). across tickOne k 0 (standing m g (joined xs ys ds) n px py)) q }
@@ -132,14 +134,14 @@ module _ {g : List ℕ} {n px py : ℕ} {R : Mine → Mine} {xs ys ds : List ℕ
   pub here-on-map : onMap here ≡ true
   here-on-map = subst (λ (e : Enemy). onMap e ≡ true) (joined-at xs ys ds i long wide) (slot-on-map (joined xs ys ds) i (d .placed))
 
-  turn : (m : Mine) → tickOne (state m) i ≡ stepped (state m) i (chosen (state m) here turns)
+  turn : (m : Mine) → tickOne (state m) i ≡ creatureStepped (state m) i (chosen (state m) here turns)
   unfolding tickOne
-  turn m = ap (λ (e : Enemy). stepped (state m) i (chosen (state m) e turns)) (joined-at xs ys ds i long wide)
+  turn m = ap (λ (e : Enemy). creatureStepped (state m) i (chosen (state m) e turns)) (joined-at xs ys ds i long wide)
 
   module _ (h : i < n) where
     pub stays : ((m : Mine) → chosen (state m) here turns ≡ Stays) → Between g n px py R xs ys ds b (i + 1)
     stays q =
-        record { parts = d .parts; placed = d .placed; same = λ m. across-turn tickOne n i (state m) (state m) h (turn m ∙ ap (stepped (state m) i) (q m)) (d .same m) }
+        record { parts = d .parts; placed = d .placed; same = λ m. across-turn tickOne n i (state m) (state m) h (turn m ∙ ap (creatureStepped (state m) i) (q m)) (d .same m) }
 
     module _ (to : Enemy) (q : (m : Mine) → chosen (state m) here turns ≡ Goes to) where
       laid : Apart (set xs i (to .x)) (set ys i (to .y)) (set ds i (to .dir))
@@ -158,7 +160,7 @@ module _ {g : List ℕ} {n px py : ℕ} {R : Mine → Mine} {xs ys ds : List ℕ
           record {
             parts = laid;
             placed = kept;
-            same = λ m. across-turn tickOne n i (state m) _ h (turn m ∙ ap (stepped (state m) i) (q m) ∙ simp p (moved m b)) (d .same m);
+            same = λ m. across-turn tickOne n i (state m) _ h (turn m ∙ ap (creatureStepped (state m) i) (q m) ∙ simp p (moved m b)) (d .same m);
           }
 
       pub catches : (eqb px (to .x) && eqb py (to .y)) ≡ true → Between g n px py R (set xs i (to .x)) (set ys i (to .y)) (set ds i (to .dir)) true (i + 1)
@@ -166,5 +168,5 @@ module _ {g : List ℕ} {n px py : ℕ} {R : Mine → Mine} {xs ys ds : List ℕ
           record {
             parts = laid;
             placed = kept;
-            same = λ m. across-turn tickOne n i (state m) _ h (turn m ∙ ap (stepped (state m) i) (q m) ∙ simp p (moved m true)) (d .same m);
+            same = λ m. across-turn tickOne n i (state m) _ h (turn m ∙ ap (creatureStepped (state m) i) (q m) ∙ simp p (moved m true)) (d .same m);
           }

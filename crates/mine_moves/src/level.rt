@@ -1,6 +1,6 @@
 // The one level, and how a text is read as a mine.
+use controls::RIGHT;
 use mine_check::coin_count;
-use mine_rules::RIGHT;
 use mine_state::AREA;
 use mine_state::BOULDER;
 use mine_state::COIN;

@@ -2,6 +2,8 @@
 //
 // What a move does is told as numbers, and every move changes the grid by the same stores.
 use crate::ways::next_cell;
+use controls::LEFT;
+use controls::RIGHT;
 use found::Found;
 use mine_apart::enemy_at;
 use mine_apart::free;
@@ -9,8 +11,6 @@ use mine_apart::slot_at;
 use mine_apart::xs_of;
 use mine_apart::ys_of;
 use mine_rules::Ahead;
-use mine_rules::LEFT;
-use mine_rules::RIGHT;
 use mine_state::AREA;
 use mine_state::BOULDER;
 use mine_state::COIN;
@@ -25,7 +25,7 @@ use mine_state::at;
 ghost use mathlib.Core.Path.{_≡_};
 ghost use Rattle.mine_state.specs.WellFormed.{WellFormed};
 ghost use Rattle.mine_rules.specs.Move.{pushed, met, moved};
-ghost use Rattle.mine_moves.specs.Steps.{Lends, Meets, Makes, Inside, gone, Stands, Steps};
+ghost use Rattle.mine_moves.specs.CodeSteps.{Lends, Meets, Makes, Inside, gone, Stands, Steps};
 
 // The player's part of a state.
 #[repr(C)]

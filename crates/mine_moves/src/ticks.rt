@@ -17,8 +17,8 @@ use mine_state::Mine;
 use mine_state::at;
 ghost use mathlib.Core.Path.{_≡_};
 ghost use Rattle.mine_state.specs.WellFormed.{WellFormed};
-ghost use Rattle.mine_rules.specs.Tick.{turns, wayOf, chosen, ticked};
-ghost use Rattle.mine_moves.specs.Steps.{Walks, Walkers, Tells, Ticked};
+ghost use Rattle.mine_rules.specs.Tick.{turns, wayOf, chosen, enemiesMoved};
+ghost use Rattle.mine_moves.specs.CodeSteps.{Walks, Walkers, Tells, Ticked};
 
 // Left, straight, right, back.
 const TURNS: [u8; 4] = [3, 0, 1, 2];
@@ -87,7 +87,7 @@ pub fn tick_on(
     py: usize,
 ) -> bool
     requires { ⌜ Walkers (now grid) (now xs) (now ys) (now dirs) count ⌝ }
-    ensures { λ r. ⌜ Ticked ticked (now (grid .entry)) count px py (now (xs .entry)) (now (ys .entry)) (now (dirs .entry)) r (now (xs .exit)) (now (ys .exit)) (now (dirs .exit)) ⌝ }
+    ensures { λ r. ⌜ Ticked enemiesMoved (now (grid .entry)) count px py (now (xs .entry)) (now (ys .entry)) (now (dirs .entry)) r (now (xs .exit)) (now (ys .exit)) (now (dirs .exit)) ⌝ }
 {
     let mut caught = false;
     let mut i: usize = 0;
@@ -114,7 +114,7 @@ pub fn tick_on(
 // One creature tick.
 pub fn move_enemies(m: Mine) -> Mine
     requires { ⌜ WellFormed m ⌝ }
-    ensures { λ r. ⌜ r ≡ ticked m ⌝ }
+    ensures { λ r. ⌜ r ≡ enemiesMoved m ⌝ }
 {
     let grid = m.grid;
     let old = m.enemies;

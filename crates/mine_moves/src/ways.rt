@@ -1,13 +1,14 @@
 // The cell one step away.
+use controls::LEFT;
 use mine_rules::Ahead;
-use mine_rules::LEFT;
 use mine_state::H;
 use mine_state::W;
 ghost use mathlib.Core.Bool.{cond};
 ghost use mathlib.Core.Path.{_≡_};
 ghost use lib.Dec.{ltb};
-ghost use Rattle.mine_rules.specs.Ways.{nextCell, OnGrid};
-ghost use Rattle.mine_moves.specs.Steps.{rightOf, downOf};
+ghost use Rattle.mine_rules.specs.Ways.{nextCell};
+ghost use Rattle.mine_moves.specs.CodeSteps.{rightOf, downOf};
+ghost use Rattle.mine_rules.specs.CodeWays.{OnGrid};
 
 // One more than what a step adds to x and to y: up, right, down, left. A creature tries every direction, and is fastest where none is
 // a branch.

@@ -7,21 +7,21 @@ use Rattle.refusal.specs.Refusal.{NONE}
 use Rattle.refusal.proofs.Calls.{refused-by}
 use Rattle.answer.specs.declared.Answer.the-variants.{GoingOn, Won, Dead, Quit}
 use Rattle.pace.specs.declared.Ticks.{Ticks}
-use Rattle.pace.specs.Pace.{ticked}
+use Rattle.pace.specs.Pace.{bothTicks}
 use Rattle.mine_state.specs.declared.Mine.{Mine}
 use Rattle.mine_state.specs.WellFormed.{refusalOf}
 use Rattle.mine_rules.specs.Tick as Tick
 use Rattle.mine_rules.specs.Gravity.{gravityOf}
-use Rattle.mine_pass.specs.declared.Played.{Played}
 use Rattle.mine_pass.specs.Pass.{GRAVITY-CYCLES, ENEMY-CYCLES, played, still, afterKeys, passOn, passAt}
+use Rattle.controls.specs.Keys.{Played}
 
-module _ (first second time : ℕ) (p : Played) where
+module _ (first second time : ℕ) (p : Played Mine) where
   pub after-quit : p .quit ≡ true → still first second NONE Quit (p .game) ≡ afterKeys first second time p
   unfolding afterKeys
   after-quit k = rw k
 
-  pub after-ticks : p .quit ≡ false → {due : Ticks} → due ≡ ticked time first second GRAVITY-CYCLES ENEMY-CYCLES
-      → {fallen : Mine} → fallen ≡ cond (due .one) (gravityOf (p .game)) (p .game) → {game : Mine} → game ≡ cond (due .two) (Tick.ticked fallen) fallen
+  pub after-ticks : p .quit ≡ false → {due : Ticks} → due ≡ bothTicks time first second GRAVITY-CYCLES ENEMY-CYCLES
+      → {fallen : Mine} → fallen ≡ cond (due .one) (gravityOf (p .game)) (p .game) → {game : Mine} → game ≡ cond (due .two) (Tick.enemiesMoved fallen) fallen
       → record { first = due .first; second = due .second; passed = record { refusal = NONE; answer = GoingOn; game = game } } ≡ afterKeys first second time p
   unfolding afterKeys
   after-ticks k t f g = rw (k, g, f, t)

@@ -13,7 +13,7 @@ use Rattle.mine_keeps.proofs.Changes.{kept-self, kept-then}
 use Rattle.mine_keeps.proofs.Gravity.{gravity-kept}
 use Rattle.mine_keeps.proofs.Ticks.{tick-kept}
 use Rattle.pace.specs.declared.Ticks.{Ticks}
-use Rattle.pace.specs.Pace.{ticked}
+use Rattle.pace.specs.Pace.{bothTicks}
 use Rattle.mine_pass.specs.declared.MineTurn.{MineTurn}
 use Rattle.mine_pass.specs.Pass.{GRAVITY-CYCLES, ENEMY-CYCLES, played, paced, afterKeys, passOn}
 use Rattle.mine_pass.proofs.Keys.{keys-kept}
@@ -22,7 +22,7 @@ module _ (m : Mine) (w : WellFormed m) where
   pub fallen-kept : (due : Bool) → Kept m (cond due (gravityOf m) m)
   fallen-kept due = cond-both (Kept m) due _ _ (λ _. gravity-kept m w) (λ _. kept-self w)
 
-  ticked-kept : (due : Bool) → Kept m (cond due (Tick.ticked m) m)
+  ticked-kept : (due : Bool) → Kept m (cond due (Tick.enemiesMoved m) m)
   ticked-kept due = cond-both (Kept m) due _ _ (λ _. tick-kept m w) (λ _. kept-self w)
 
 pub paced-kept : (m : Mine) (due : Ticks) → WellFormed m → Kept m (paced m due)
@@ -37,4 +37,4 @@ pass-kept first second m keys time w =
     let k = keys-kept m keys w in
     cond-both P (m .won) _ _ (λ _. kept-self w)
     (λ _. cond-both P (m .dead) _ _ (λ _. kept-self w)
-    (λ _. cond-both P (played m keys .quit) _ _ (λ _. k) (λ _. kept-then k (paced-kept (played m keys .game) (ticked time first second GRAVITY-CYCLES ENEMY-CYCLES) (k .formed)))))
+    (λ _. cond-both P (played m keys .quit) _ _ (λ _. k) (λ _. kept-then k (paced-kept (played m keys .game) (bothTicks time first second GRAVITY-CYCLES ENEMY-CYCLES) (k .formed)))))

@@ -8,15 +8,14 @@ use Rattle.answer.specs.declared.Answer.{Answer}
 use Rattle.answer.specs.Answer.{GOING-ON, WON, DEAD, QUIT, answerOf}
 use Rattle.pace.specs.declared.Pace.{Pace}
 use Rattle.pace.specs.declared.Ticks.{Ticks}
-use Rattle.pace.specs.Pace.{ticked}
+use Rattle.pace.specs.Pace.{bothTicks}
 use Rattle.mine_state.specs.declared.Mine.{Mine}
 use Rattle.mine_state.specs.WellFormed.{refusalOf}
-use Rattle.mine_rules.specs.Ways.{UP, RIGHT, DOWN, LEFT}
 use Rattle.mine_rules.specs.Move.{moved}
 use Rattle.mine_rules.specs.Tick as Tick
 use Rattle.mine_rules.specs.Gravity.{gravityOf}
-use Rattle.mine_pass.specs.declared.Played.{Played}
 use Rattle.mine_pass.specs.declared.MineTurn.{MineTurn}
+use Rattle.controls.specs.Keys.{Played, keyedBy, playedBy, UP, RIGHT, DOWN, LEFT}
 
 -- gravity 12,000,000, creatures 36,000,000
 abbrev pub GRAVITY-CYCLES : ℕ
@@ -25,27 +24,18 @@ GRAVITY-CYCLES = 12000000
 abbrev pub ENEMY-CYCLES : ℕ
 ENEMY-CYCLES = 36000000
 
-abbrev pub KEY-QUIT : ℕ
-KEY-QUIT = 10
+-- the keys of a pass: each that gives a direction moves
+abbrev pub keyed : Mine → ℕ → Mine
+keyed m key = keyedBy moved m key
 
--- 5, 8, 7, 9 are up, down, left, right; others are ignored
-unfoldable pub keyed : Mine → ℕ → Mine
-keyed m key =
-    cond (eqb key 5) (moved m UP)
-    (cond (eqb key 8) (moved m DOWN)
-    (cond (eqb key 7) (moved m LEFT)
-    (cond (eqb key 9) (moved m RIGHT) m)))
-
--- all keys in order; 10 quits at once, earlier moves standing
-unfoldable pub played : Mine → List ℕ → Played
-played m [] = record { quit = false; game = m }
-played m (key ∷ keys) = cond (eqb key KEY-QUIT) (record { quit = true; game = m }) (played (keyed m key) keys)
+abbrev pub played : Mine → List ℕ → Played Mine
+played m keys = playedBy moved m keys
 
 -- gravity if due, then creatures if due
 abbrev pub paced : Mine → Ticks → Mine
 paced m due =
     let fallen : Mine = cond (due .one) (gravityOf m) m in
-    cond (due .two) (Tick.ticked fallen) fallen
+    cond (due .two) (Tick.enemiesMoved fallen) fallen
 
 module _ (first second : ℕ) where
   -- the record as it was
@@ -53,9 +43,9 @@ module _ (first second : ℕ) where
   still refusal answer m = record { first = first; second = second; passed = record { refusal = refusal; answer = answer; game = m } }
 
   -- quit: no ticks; else both ticks of the reading
-  unfoldable pub afterKeys : ℕ → Played → MineTurn
+  unfoldable pub afterKeys : ℕ → Played Mine → MineTurn
   afterKeys time p =
-      let due : Ticks = ticked time first second GRAVITY-CYCLES ENEMY-CYCLES in
+      let due : Ticks = bothTicks time first second GRAVITY-CYCLES ENEMY-CYCLES in
       cond (p .quit) (still NONE (answerOf QUIT) (p .game))
       (record { first = due .first; second = due .second; passed = record { refusal = NONE; answer = answerOf GOING-ON; game = paced (p .game) due } })
 

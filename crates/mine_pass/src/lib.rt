@@ -9,16 +9,6 @@ pub const GRAVITY_CYCLES: u32 = 12_000_000;
 
 pub const ENEMY_CYCLES: u32 = 36_000_000;
 
-pub const KEY_UP: u8 = 5;
-
-pub const KEY_DOWN: u8 = 8;
-
-pub const KEY_LEFT: u8 = 7;
-
-pub const KEY_RIGHT: u8 = 9;
-
-pub const KEY_QUIT: u8 = 10;
-
 pub struct MinePassed {
     pub refusal: Refusal,
     pub answer: Answer,
@@ -30,10 +20,4 @@ pub struct MineTurn {
     pub first: u32,
     pub second: u32,
     pub passed: MinePassed,
-}
-
-// The state after the keys, and whether one of them quit.
-pub struct Played {
-    pub game: Mine,
-    pub quit: bool,
 }

@@ -1,2 +1,3 @@
 pub mod Art
 pub mod Picture
+pub mod CodePicture

@@ -1,15 +1,11 @@
 -- Document 01, 'The frame': which pixel of Block Mine's picture is lit.
 use mathlib.Core.Bool.{Bool, _||_, _&&_}
-use mathlib.Core.List.{List}
-use mathlib.Core.Path.{_≡_}
-use Prim.Native.Nat.{ℕ, _+_, _-_, _/_, _%_, _≤_, min}
+use Prim.Native.Nat.{ℕ, _+_, _-_, _/_, _%_, min}
 use lib.Dec.{leb}
-use lib.ListN.{length}
 use Rattle.laws.specs.Lists.{any}
 use Rattle.bits.specs.Bits.{artBit}
-use Rattle.frame.specs.Frame.{FRAME-LEN}
 use Rattle.mine_state.specs.declared.Mine.{Mine}
-use Rattle.mine_state.specs.State.{W, H, MAX-ENEMIES, codeAt, creatures, standsAt, playerAt}
+use Rattle.mine_state.specs.State.{W, H, codeAt, creatures, standsAt, playerAt}
 use Rattle.mine_picture.specs.Art.{artOf, ENEMY-PAT, PLAYER-PAT}
 
 -- a tile is 8 by 8 pixels; the window is 16 by 7 tiles, below page 0, which is blank
@@ -53,8 +49,3 @@ window cx cy lit x y = leb HUD-H y && lit (cx + x / TILE) (cy + (y - HUD-H) / TI
 
 unfoldable pub mineLit : Mine → ℕ → ℕ → Bool
 mineLit m = window (left m) (top m) (cellLit m)
-
--- what the picture needs of a state and a frame
-pub record Drawable (m : Mine) (frame : List ℕ) : Type 0 where
-  pub few : m .count ≤ MAX-ENEMIES
-  pub whole : length frame ≡ FRAME-LEN

@@ -9,7 +9,7 @@ use Rattle.laws.specs.Lists.{any}
 use Rattle.laws.proofs.Lists.{any-take}
 use Rattle.bits.specs.Bits.{artBit}
 use Rattle.frame.specs.Frame.{pack, pixel}
-use Rattle.frame.specs.Draw.{Framed, blank, inked}
+use Rattle.frame.specs.CodeDraw.{Framed, unlit, inked}
 use Rattle.frame.proofs.Pack.{pack-ext}
 use Rattle.frame.proofs.Draw.{drawn-pack, parts, parts-more}
 use Rattle.mine_state.specs.declared.Enemy.{Enemy}
@@ -17,7 +17,7 @@ use Rattle.mine_state.specs.declared.Mine.{Mine}
 use Rattle.mine_state.specs.State.{codeIn, standsAt, creatures}
 use Rattle.mine_picture.specs.Art.{artOf, ENEMY-PAT, PLAYER-PAT}
 use Rattle.mine_picture.specs.Picture.{left, top, isOpen, window, mineLit, cellLit}
-use Rattle.mine_render.specs.Draw.{columnsOf, stampLit, tileLit, spriteLit, enemiesLit}
+use Rattle.mine_render.specs.CodeDraw.{columnsOf, stampLit, tileLit, spriteLit, enemiesLit}
 use Rattle.mine_render.proofs.Stamp.{stamp-tile, tileNo}
 
 -- one tile more
@@ -55,14 +55,14 @@ stack true a b c = refl
 stack false a b c = refl
 
 pub whole : (m : Mine) (cx cy : ℕ) (f₁ f₂ f₃ f₄ : List ℕ) → cx ≡ left m → cy ≡ top m →
-    f₁ ≡ pack blank →
+    f₁ ≡ pack unlit →
     f₂ ≡ inked f₁ (window cx cy (tileLit (m .grid) (isOpen m))) →
     f₃ ≡ inked f₂ (window cx cy (enemiesLit (creatures m))) →
     f₄ ≡ inked f₃ (window cx cy (spriteLit (m .px) (m .py) PLAYER-PAT)) →
     f₄ ≡ pack (mineLit m)
 unfolding mineLit cellLit
 whole m cx cy f₁ f₂ f₃ f₄ p q e₁ e₂ e₃ e₄ =
-    let d₂ = rw e₁ at e₂ ∙ drawn-pack _||_ blank (window cx cy (tileLit (m .grid) (isOpen m))) in
+    let d₂ = rw e₁ at e₂ ∙ drawn-pack _||_ unlit (window cx cy (tileLit (m .grid) (isOpen m))) in
     let d₃ = rw d₂ at e₃ ∙ drawn-pack _||_ _ (window cx cy (enemiesLit (creatures m))) in
     let d₄ = rw d₃ at e₄ ∙ drawn-pack _||_ _ (window cx cy (spriteLit (m .px) (m .py) PLAYER-PAT)) in
     (rw (p, q) at d₄) ∙ pack-ext _ _ (λ x y hx hy. stack (leb 8 y) _ _ _)

@@ -14,14 +14,14 @@ use Rattle.laws.proofs.Table.{getD-table}
 use Rattle.bits.specs.Bits.{number, bitAt, artBit}
 use Rattle.bits.proofs.Number.{number-or, number-ext, number-lt, byte-of, bit-number}
 use Rattle.frame.specs.Frame.{pack, pageByte, pixel}
-use Rattle.frame.specs.Draw.{Framed, inked}
+use Rattle.frame.specs.CodeDraw.{Framed, inked}
 use Rattle.frame.proofs.Pack.{pack-ext}
 use Rattle.frame.proofs.Draw.{draw-packed, parts, parts-more}
 use Rattle.mine_picture.specs.Art.{DIRT-PAT, WALL-PAT, BOULDER-PAT, COIN-PAT, EMPTY-PAT, exitArt, artOf}
 use Rattle.mine_render.specs.declared.Tiles.{Tiles}
 use Rattle.laws.specs.Lists.{table}
 use Rattle.mine_picture.specs.Picture.{window}
-use Rattle.mine_render.specs.Draw.{columnsIn, columnsOf, tilesOf, stampLit, tileLit, spriteLit}
+use Rattle.mine_render.specs.CodeDraw.{columnsIn, columnsOf, tilesOf, stampLit, tileLit, spriteLit}
 use Rattle.mine_state.specs.State.{DIRT, WALL, BOULDER, COIN, EXIT, codeIn}
 
 -- a stamp lights nothing outside its tile

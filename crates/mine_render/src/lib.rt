@@ -2,10 +2,10 @@
 ghost use mathlib.Core.Path.{_≡_};
 ghost use lib.ListN.{length, take};
 ghost use Rattle.frame.specs.Frame.{FRAME-LEN, pack};
-ghost use Rattle.frame.specs.Draw.{blank, inked};
+ghost use Rattle.frame.specs.CodeDraw.{unlit, inked};
 ghost use Rattle.mine_picture.specs.Art.{exitArt};
-ghost use Rattle.mine_picture.specs.Picture.{Drawable, cameraOf, mineLit, window};
-ghost use Rattle.mine_render.specs.Draw.{Inside, Peopled, Placed, Tiled, columnsIn, columnsOf, enemiesLit, spriteLit, stampLit, tileLit, tilesOf};
+ghost use Rattle.mine_picture.specs.Picture.{cameraOf, mineLit, window};
+ghost use Rattle.mine_render.specs.CodeDraw.{Inside, Peopled, Placed, Tiled, columnsIn, columnsOf, enemiesLit, spriteLit, stampLit, tileLit, tilesOf};
 use bits::TILE;
 use frame::FRAME_LEN;
 use frame::PAGE_LEN;
@@ -20,6 +20,7 @@ use mine_state::MAX_ENEMIES;
 use mine_state::Mine;
 use mine_state::W;
 use mine_state::WALL;
+ghost use Rattle.mine_picture.specs.CodePicture.{Drawable};
 
 // The camera window, in tiles: 16 wide (128 px) and 7 tall, leaving a HUD row on top.
 pub const VIEW_W: usize = 16;
@@ -121,7 +122,7 @@ fn tile_columns(t: Tiles, code: u8) -> [u8; 8]
 
 fn clear(frame: &mut [u8])
     requires { ⌜ length (now frame) ≡ FRAME-LEN ⌝ }
-    ensures { λ _. ⌜ now (frame .exit) ≡ pack blank ⌝ }
+    ensures { λ _. ⌜ now (frame .exit) ≡ pack unlit ⌝ }
 {
     let mut i: usize = 0;
     while i < FRAME_LEN {

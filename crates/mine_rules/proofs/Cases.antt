@@ -5,7 +5,7 @@ use Rattle.mine_state.specs.WellFormed.{cellsOk, creaturesOk, numbersOk, wellFo
 use Rattle.mine_rules.specs.Ways.{nextCell}
 use Rattle.mine_rules.specs.Move.{pushed, met, moved}
 use Rattle.mine_rules.specs.Gravity.{carried, rested, without, overPlayer, overCreature, overEmpty, rolled, overOther, cellFall, rowFall, gravityOf}
-use Rattle.mine_rules.specs.Tick.{wayOf, tickOne, ticked}
+use Rattle.mine_rules.specs.Tick.{wayOf, tickOne, enemiesMoved}
 use Rattle.mine_rules.specs.Cases.{P4, CoinFalls, P5, Taken, P6, Sides, Rest, P7, Push, Exit, Beyond, P8, Turns, Catch}
 
 pub p4 : P4
@@ -57,9 +57,9 @@ unfolding wellFormed cellsOk creaturesOk numbersOk emptyAt freeAt carried rested
 p8 = record { right = refl; left = refl; two = refl }
 
 pub turns : Turns
-unfolding wellFormed cellsOk creaturesOk numbersOk emptyAt nextCell wayOf tickOne ticked
+unfolding wellFormed cellsOk creaturesOk numbersOk emptyAt nextCell wayOf tickOne enemiesMoved
 turns = record { right = refl; left = refl; ahead = refl; other = refl; back = refl; stays = refl }
 
 pub catch : Catch
-unfolding wellFormed cellsOk creaturesOk numbersOk emptyAt nextCell wayOf tickOne ticked
+unfolding wellFormed cellsOk creaturesOk numbersOk emptyAt nextCell wayOf tickOne enemiesMoved
 catch = record { right = refl; both = refl }

@@ -9,12 +9,12 @@ use Rattle.laws.specs.Lists.{bit, count}
 use Rattle.laws.proofs.Lists.{all-at, all-set}
 use Rattle.laws.proofs.Counts.{count-clear, count-set, getD-set-kept}
 use Rattle.mine_state.specs.declared.Mine.{Mine}
-use Rattle.mine_state.specs.State.{W, H, AREA, EMPTY, isCoin, place, codeAt, blankSlot, onMap}
+use Rattle.mine_state.specs.State.{W, H, AREA, EMPTY, isCoin, place, codeAt, blankSlot}
 use Rattle.mine_state.specs.Change.{withGrid, withMarks, killed}
-use Rattle.mine_state.specs.WellFormed.{Sound}
 use Rattle.mine_state.proofs.Cells.{empty-inside, empty-code, free-inside, free-empty}
 use Rattle.mine_rules.specs.Gravity.{carried, rested, without, coinCollected}
 use Rattle.mine_rules.proofs.GravityKeeps.{Keeps}
+use Rattle.mine_state.specs.CodeState.{onMap, Sound}
 
 -- grid and marks changed, the coins no more
 sound-cells : {m : Mine} → Sound m → (g : List ℕ) (f : List Bool) → length g ≡ AREA → length f ≡ AREA → m .coins + count isCoin g ≤ AREA → Sound (withMarks (withGrid m g) f)

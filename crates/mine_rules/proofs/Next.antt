@@ -8,10 +8,12 @@ use borrow.Author.Tests.{ltb-true}
 use Rattle.laws.proofs.Choice.{cond-both}
 use Rattle.mine_state.specs.State.{W, H}
 use Rattle.mine_state.specs.declared.Mine.{Mine}
-use Rattle.mine_state.specs.WellFormed.{Sound}
 use Rattle.mine_rules.specs.declared.Ahead.{Ahead}
 use Rattle.mine_rules.specs.declared.Ahead.the-variants.{Cell, Off}
-use Rattle.mine_rules.specs.Ways.{UP, RIGHT, DOWN, cellIf, nextCell, OnGrid}
+use Rattle.mine_rules.specs.Ways.{cellIf, nextCell}
+use Rattle.mine_state.specs.CodeState.{Sound}
+use Rattle.mine_rules.specs.CodeWays.{OnGrid}
+use Rattle.controls.specs.Keys.{UP, RIGHT, DOWN}
 
 abbrev Inside : Ahead → Type 0
 Inside (Cell x y) = OnGrid x y

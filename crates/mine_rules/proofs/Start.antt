@@ -6,11 +6,12 @@ use lib.ListN.{replicate}
 use Rattle.mine_state.specs.declared.Mine.{Mine}
 use Rattle.mine_state.specs.State.{AREA, emptyAt, freeAt, blankSlot}
 use Rattle.mine_state.specs.WellFormed.{cellsOk, creaturesOk, numbersOk, wellFormed}
-use Rattle.mine_rules.specs.Ways.{RIGHT, nextCell}
+use Rattle.mine_rules.specs.Ways.{nextCell}
 use Rattle.mine_rules.specs.Load.{tileOf, readAt, readFrom, mineOf, LEVEL, loaded}
 use Rattle.mine_rules.specs.Move.{pushed, met, moved}
-use Rattle.mine_rules.specs.Tick.{wayOf, tickOne, ticked}
+use Rattle.mine_rules.specs.Tick.{wayOf, tickOne, enemiesMoved}
 use Rattle.mine_rules.specs.Cases.{P1}
+use Rattle.controls.specs.Keys.{RIGHT}
 
 pub start : P1
 unfolding loaded mineOf readFrom readAt wellFormed cellsOk creaturesOk numbersOk emptyAt
@@ -51,9 +52,9 @@ pub p2 : AtFour (rightThrice loaded)
 p2 = subst (λ (m : Mine). AtFour (rightThrice m)) (sym loaded-drawn) drawn-right
 
 -- P3: load, creature tick: no change
-drawn-tick : ticked drawn ≡ drawn
-unfolding ticked tickOne wayOf nextCell emptyAt
+drawn-tick : enemiesMoved drawn ≡ drawn
+unfolding enemiesMoved tickOne wayOf nextCell emptyAt
 drawn-tick = refl
 
-pub p3 : ticked loaded ≡ loaded
-p3 = ap ticked loaded-drawn ∙ drawn-tick ∙ sym loaded-drawn
+pub p3 : enemiesMoved loaded ≡ loaded
+p3 = ap enemiesMoved loaded-drawn ∙ drawn-tick ∙ sym loaded-drawn

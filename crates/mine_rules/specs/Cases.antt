@@ -9,11 +9,11 @@ use Rattle.mine_state.specs.declared.Enemy.{Enemy}
 use Rattle.mine_state.specs.State.{AREA, MAX-ENEMIES, EMPTY, WALL, BOULDER, COIN, EXIT, place, codeAt, creatures, purse, boulders, blankSlot}
 use Rattle.mine_state.specs.Change.{withMarks, withPlayer, withCell, withCreatures, withCoins, killed, winner}
 use Rattle.mine_state.specs.WellFormed.{wellFormed}
-use Rattle.mine_rules.specs.Ways.{UP, RIGHT, DOWN, LEFT}
 use Rattle.mine_rules.specs.Load.{loaded}
 use Rattle.mine_rules.specs.Move.{moved}
 use Rattle.mine_rules.specs.Gravity.{gravityOf}
-use Rattle.mine_rules.specs.Tick.{ticked}
+use Rattle.mine_rules.specs.Tick.{enemiesMoved}
+use Rattle.controls.specs.Keys.{UP, RIGHT, DOWN, LEFT}
 
 -- the loaded level: player (1,1); exit (21,12); 38 coins, 17 boulders, needed 28; all marks false; creatures (20,1) and (21,9), both direction 1
 pub record P1 : Type 0 where
@@ -172,11 +172,11 @@ alone m e = withCreatures m (e ∷ replicate 7 blankSlot) 1
 -- left, straight, right, back: the first that is empty; with no such cell nothing changes
 pub record Turns : Type 0 where
   pub right : wellFormed (alone wallBehind (creature 5 5 RIGHT)) ≡ true
-  pub left : ticked (alone bare (creature 5 5 RIGHT)) ≡ alone bare (creature 5 4 UP)
-  pub ahead : ticked (alone wallLeft (creature 5 5 RIGHT)) ≡ alone wallLeft (creature 6 5 RIGHT)
-  pub other : ticked (alone wallAhead (creature 5 5 RIGHT)) ≡ alone wallAhead (creature 5 6 DOWN)
-  pub back : ticked (alone wallRight (creature 5 5 RIGHT)) ≡ alone wallRight (creature 4 5 LEFT)
-  pub stays : ticked (alone wallBehind (creature 5 5 RIGHT)) ≡ alone wallBehind (creature 5 5 RIGHT)
+  pub left : enemiesMoved (alone bare (creature 5 5 RIGHT)) ≡ alone bare (creature 5 4 UP)
+  pub ahead : enemiesMoved (alone wallLeft (creature 5 5 RIGHT)) ≡ alone wallLeft (creature 6 5 RIGHT)
+  pub other : enemiesMoved (alone wallAhead (creature 5 5 RIGHT)) ≡ alone wallAhead (creature 5 6 DOWN)
+  pub back : enemiesMoved (alone wallRight (creature 5 5 RIGHT)) ≡ alone wallRight (creature 4 5 LEFT)
+  pub stays : enemiesMoved (alone wallBehind (creature 5 5 RIGHT)) ≡ alone wallBehind (creature 5 5 RIGHT)
 
 -- the player at (1,1), and two creatures
 abbrev pub withTwo : Enemy → Enemy → Mine
@@ -185,4 +185,4 @@ withTwo a b = withCreatures bare (a ∷ b ∷ replicate 6 blankSlot) 2
 -- the first reaches the player: dead; the tick goes on
 pub record Catch : Type 0 where
   pub right : wellFormed (withTwo (creature 1 2 RIGHT) creatureB) ≡ true
-  pub both : ticked (withTwo (creature 1 2 RIGHT) creatureB) ≡ killed (withTwo (creature 1 1 UP) (creature 9 3 RIGHT))
+  pub both : enemiesMoved (withTwo (creature 1 2 RIGHT) creatureB) ≡ killed (withTwo (creature 1 1 UP) (creature 9 3 RIGHT))

@@ -4,3 +4,4 @@ pub mod Move
 pub mod Gravity
 pub mod Tick
 pub mod Cases
+pub mod CodeWays

@@ -11,7 +11,7 @@ use Rattle.laws.specs.Lists.{count, across}
 use Rattle.mine_state.specs.declared.Mine.{Mine}
 use Rattle.mine_state.specs.State.{W, AREA, MAX-ENEMIES, EMPTY, DIRT, WALL, BOULDER, COIN, EXIT, isCoin, blankSlot}
 use Rattle.mine_state.specs.Change.{withGrid, withPlayer, withCreatures}
-use Rattle.mine_rules.specs.Ways.{RIGHT}
+use Rattle.controls.specs.Keys.{RIGHT}
 
 -- the tile of a character; player and creatures stand on empty cells
 abbrev pub tileOf : ℕ → ℕ
@@ -26,15 +26,15 @@ tileOf c =
     (cond (eqb c (code "E")) EMPTY WALL)))))))
 
 -- one more creature at (x, y), direction 1, while there is a slot
-abbrev pub joined : Mine → ℕ → ℕ → Mine
-joined m x y =
+abbrev pub withOneMore : Mine → ℕ → ℕ → Mine
+withOneMore m x y =
     cond (ltb (m .count) MAX-ENEMIES)
     (withCreatures m (set (m .enemies) (m .count) (record { x = x; y = y; dir = RIGHT })) (m .count + 1))
     m
 
 -- `P` is the player's start, `E` a creature's
 abbrev pub settled : Mine → ℕ → ℕ → ℕ → Mine
-settled m c x y = cond (eqb c (code "P")) (withPlayer m x y) (cond (eqb c (code "E")) (joined m x y) m)
+settled m c x y = cond (eqb c (code "P")) (withPlayer m x y) (cond (eqb c (code "E")) (withOneMore m x y) m)
 
 -- the character at the place i
 unfoldable pub readAt : List ℕ → Mine → ℕ → Mine

@@ -9,7 +9,8 @@ use Rattle.mine_state.specs.State.{EMPTY, DIRT, WALL, BOULDER, COIN, EXIT, code
 use Rattle.mine_state.specs.Change.{entered, withCell, withCoins, killed, winner}
 use Rattle.mine_rules.specs.declared.Ahead.{Ahead}
 use Rattle.mine_rules.specs.declared.Ahead.the-variants.{Cell, Off}
-use Rattle.mine_rules.specs.Ways.{RIGHT, LEFT, nextCell}
+use Rattle.mine_rules.specs.Ways.{nextCell}
+use Rattle.controls.specs.Keys.{RIGHT, LEFT}
 
 -- exit: won if coins reach needed, no move
 abbrev pub atExit : Mine → Mine

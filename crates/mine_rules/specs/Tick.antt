@@ -41,13 +41,13 @@ abbrev pub caught : Mine → Enemy → Mine
 caught m e = cond (playerAt m (e .x) (e .y)) (killed m) m
 
 -- with no such cell nothing changes
-abbrev pub stepped : Mine → ℕ → Step → Mine
-stepped m i (Goes e) = caught (withCreature m i e) e
-stepped m i Stays = m
+abbrev pub creatureStepped : Mine → ℕ → Step → Mine
+creatureStepped m i (Goes e) = caught (withCreature m i e) e
+creatureStepped m i Stays = m
 
 unfoldable pub tickOne : Mine → ℕ → Mine
-tickOne m i = stepped m i (chosen m (getD (m .enemies) i blankSlot) turns)
+tickOne m i = creatureStepped m i (chosen m (getD (m .enemies) i blankSlot) turns)
 
 -- in list order; the tick goes on
-unfoldable pub ticked : Mine → Mine
-ticked m = across tickOne (m .count) 0 m
+unfoldable pub enemiesMoved : Mine → Mine
+enemiesMoved m = across tickOne (m .count) 0 m

@@ -1,23 +1,11 @@
 -- Block Mine: the cell one step away.
 use mathlib.Core.Bool.{Bool, cond}
-use Prim.Native.Nat.{ℕ, _+_, _-_, _<_}
+use Prim.Native.Nat.{ℕ, _+_, _-_}
 use lib.Dec.{ltb, eqb}
 use Rattle.mine_state.specs.State.{W, H}
 use Rattle.mine_rules.specs.declared.Ahead.{Ahead}
 use Rattle.mine_rules.specs.declared.Ahead.the-variants.{Cell, Off}
-
--- 0 up, 1 right, 2 down, 3 left
-abbrev pub UP : ℕ
-UP = 0
-
-abbrev pub RIGHT : ℕ
-RIGHT = 1
-
-abbrev pub DOWN : ℕ
-DOWN = 2
-
-abbrev pub LEFT : ℕ
-LEFT = 3
+use Rattle.controls.specs.Keys.{UP, RIGHT, DOWN}
 
 abbrev pub cellIf : Bool → ℕ → ℕ → Ahead
 cellIf on x y = cond on (Cell x y) Off
@@ -29,7 +17,3 @@ nextCell d x y =
     (cond (eqb d RIGHT) (cellIf (ltb (x + 1) W) (x + 1) y)
     (cond (eqb d DOWN) (cellIf (ltb (y + 1) H) x (y + 1))
     (cellIf (ltb 0 x) (x - 1) y)))
-
-pub record OnGrid (x y : ℕ) : Type 0 where
-  pub across : x < W
-  pub down : y < H

@@ -1,15 +1,6 @@
 // Block Mine's rules, as definitions (specs/) and their cases and laws (proofs/); here the words that they share with the code.
 use mine_state::Enemy;
 
-// The directions.
-pub const UP: u8 = 0;
-
-pub const RIGHT: u8 = 1;
-
-pub const DOWN: u8 = 2;
-
-pub const LEFT: u8 = 3;
-
 // One step away: a cell of the grid, or off it.
 pub enum Ahead {
     Cell(usize, usize),

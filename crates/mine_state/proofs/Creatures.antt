@@ -14,9 +14,10 @@ use Rattle.found.specs.declared.Found.the-variants.{At}
 use Rattle.found.proofs.First.{first-bound}
 use Rattle.mine_state.specs.declared.Mine.{Mine}
 use Rattle.mine_state.specs.declared.Enemy.{Enemy}
-use Rattle.mine_state.specs.State.{W, H, onGrid, codeIn, EMPTY, emptyAt, creatures, standsAt, firstAt, onMap, allOnMap, blankSlot}
-use Rattle.mine_state.specs.WellFormed.{creatureOk, apart, blank}
+use Rattle.mine_state.specs.State.{W, H, onGrid, codeIn, EMPTY, emptyAt, creatures, standsAt, firstAt, blankSlot}
+use Rattle.mine_state.specs.WellFormed.{creatureOk, apart, isBlank}
 use Rattle.mine_state.proofs.Cells.{on-grid}
+use Rattle.mine_state.specs.CodeState.{onMap, allOnMap}
 
 -- A loop that asks of each creature whether a later one stands on its cell.
 module _ (l : List Enemy) (i : ℕ) {R : Bool} {e : Enemy} (h : drop i l ≡ e ∷ drop (i + 1) l) (q : apart (drop i l) ≡ R) where
@@ -41,7 +42,7 @@ creature-on-map g e h =
     (and-left (onGrid (e .x) (e .y)) (eqb (codeIn g (e .x) (e .y)) EMPTY) on)
     (and-right (emptyAt g (e .x) (e .y)) (leb (e .dir) 3) h)
 
-blank-on-map : (e : Enemy) → blank e ≡ true → onMap e ≡ true
+blank-on-map : (e : Enemy) → isBlank e ≡ true → onMap e ≡ true
 blank-on-map e h =
     let two = and-left (eqb (e .x) 0 && eqb (e .y) 0) (eqb (e .dir) 0) h in
     let a = eqb-true (e .x) 0 (and-left (eqb (e .x) 0) (eqb (e .y) 0) two) in
@@ -50,11 +51,11 @@ blank-on-map e h =
     rw (a, b, d)
 
 -- so all slots are on the map
-pub slots-on-map : (g : List ℕ) (n : ℕ) (es : List Enemy) → all (creatureOk g) (take n es) ≡ true → all blank (drop n es) ≡ true → allOnMap es ≡ true
+pub slots-on-map : (g : List ℕ) (n : ℕ) (es : List Enemy) → all (creatureOk g) (take n es) ≡ true → all isBlank (drop n es) ≡ true → allOnMap es ≡ true
 slots-on-map g n [] a b = refl
 slots-on-map g zero (e ∷ es) a b =
-    and-both (onMap e) (allOnMap es) (blank-on-map e (and-left (blank e) (all blank es) b))
-    (slots-on-map g zero es refl (and-right (blank e) (all blank es) b))
+    and-both (onMap e) (allOnMap es) (blank-on-map e (and-left (isBlank e) (all isBlank es) b))
+    (slots-on-map g zero es refl (and-right (isBlank e) (all isBlank es) b))
 slots-on-map g (suc n) (e ∷ es) a b =
     and-both (onMap e) (allOnMap es) (creature-on-map g e (and-left (creatureOk g e) (all (creatureOk g) (take n es)) a))
     (slots-on-map g n es (and-right (creatureOk g e) (all (creatureOk g) (take n es)) a) b)

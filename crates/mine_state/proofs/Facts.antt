@@ -9,9 +9,10 @@ use Rattle.laws.proofs.Choice.{and-left, and-right, and-three}
 use Rattle.refusal.proofs.Checks.{none-passes, passes-none}
 use Rattle.mine_state.specs.declared.Mine.{Mine}
 use Rattle.mine_state.specs.State.{AREA, MAX-ENEMIES, isCode, creatures, purse}
-use Rattle.mine_state.specs.WellFormed.{cellsOk, playerOk, creatureOk, apart, blank, creaturesOk, numbersOk, wellFormed, refusalOf, WellFormed, Sound}
+use Rattle.mine_state.specs.WellFormed.{cellsOk, playerOk, creatureOk, apart, isBlank, creaturesOk, numbersOk, wellFormed, refusalOf, WellFormed}
 use Rattle.mine_state.proofs.Cells.{empty-inside}
 use Rattle.mine_state.proofs.Creatures.{slots-on-map}
+use Rattle.mine_state.specs.CodeState.{Sound}
 
 -- where the arrays have their sizes, the codes decide
 pub cells-ok : (m : Mine) {r : Bool} → length (m .grid) ≡ AREA → length (m .falling) ≡ AREA → r ≡ all isCode (m .grid) → cellsOk m ≡ r
@@ -32,7 +33,7 @@ unfolding wellFormed cellsOk creaturesOk numbersOk
 facts m e =
     let sized = eqb (length (m .enemies)) MAX-ENEMIES && leb (m .count) MAX-ENEMIES in
     let each = all (creatureOk (m .grid)) (creatures m) in
-    let last = all blank (drop (m .count) (m .enemies)) in
+    let last = all isBlank (drop (m .count) (m .enemies)) in
     let n = and-right (cellsOk m && playerOk m && creaturesOk m) (numbersOk m) e in
     let t = and-three (cellsOk m) (playerOk m) (creaturesOk m) (and-left (cellsOk m && playerOk m && creaturesOk m) (numbersOk m) e) in
     let g = and-three (eqb (length (m .grid)) AREA) (eqb (length (m .falling)) AREA) (all isCode (m .grid)) (t .0) in

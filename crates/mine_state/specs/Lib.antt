@@ -1,3 +1,4 @@
 pub mod State
 pub mod Change
 pub mod WellFormed
+pub mod CodeState

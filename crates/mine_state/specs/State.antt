@@ -1,11 +1,10 @@
 -- Block Mine: what a state holds, and who stands where.
 use mathlib.Core.Bool.{Bool, false, _&&_, not}
 use mathlib.Core.List.{List}
-use mathlib.Core.Path.{_≡_}
-use Prim.Native.Nat.{ℕ, _+_, _*_, _<_}
+use Prim.Native.Nat.{ℕ, _+_, _*_}
 use lib.Dec.{leb, ltb, eqb}
-use lib.ListN.{length, getD, take}
-use Rattle.laws.specs.Lists.{all, count}
+use lib.ListN.{getD, take}
+use Rattle.laws.specs.Lists.{count}
 use Rattle.found.specs.First.{first, nobody}
 use Rattle.found.specs.declared.Found.{Found}
 use Rattle.mine_state.specs.declared.Mine.{Mine}
@@ -84,13 +83,6 @@ creatures m = take (m .count) (m .enemies)
 abbrev pub standsAt : ℕ → ℕ → Enemy → Bool
 standsAt x y e = eqb (e .x) x && eqb (e .y) y
 
--- a slot on the grid with a direction from 0 to 3; one that holds zeros is such
-abbrev pub onMap : Enemy → Bool
-onMap e = onGrid (e .x) (e .y) && leb (e .dir) 3
-
-abbrev pub allOnMap : List Enemy → Bool
-allOnMap es = all onMap es
-
 -- the first creature at (x, y) and how many are there, or nobody
 abbrev pub firstAt : Mine → ℕ → ℕ → Found
 firstAt m x y = first (standsAt x y) (creatures m)
@@ -109,9 +101,3 @@ boulders m = count isBoulder (m .grid)
 -- a slot that holds zeros
 abbrev pub blankSlot : Enemy
 blankSlot = record { x = 0; y = 0; dir = 0 }
-
--- a cell of a grid
-pub record CellOf (g : List ℕ) (x y : ℕ) : Type 0 where
-  pub cells : length g ≡ AREA
-  pub across : x < W
-  pub down : y < H

@@ -2,7 +2,7 @@
 use mathlib.Core.Bool.{Bool, true, _&&_, not}
 use mathlib.Core.List.{List, [], _∷_}
 use mathlib.Core.Path.{_≡_}
-use Prim.Native.Nat.{ℕ, _≤_, _<_}
+use Prim.Native.Nat.{ℕ, _≤_}
 use lib.Dec.{leb, eqb}
 use lib.ListN.{length, drop}
 use Rattle.laws.specs.Lists.{all, any}
@@ -10,7 +10,7 @@ use Rattle.found.specs.First.{number}
 use Rattle.refusal.specs.Refusal.{CELLS, PLAYER, CREATURES, NUMBERS, unless, _then_}
 use Rattle.mine_state.specs.declared.Mine.{Mine}
 use Rattle.mine_state.specs.declared.Enemy.{Enemy}
-use Rattle.mine_state.specs.State.{W, H, AREA, MAX-ENEMIES, isCode, emptyAt, creatures, standsAt, firstAt, allOnMap, purse}
+use Rattle.mine_state.specs.State.{AREA, MAX-ENEMIES, isCode, emptyAt, creatures, standsAt, firstAt, purse}
 
 -- 24 by 14 cells, codes 0 to 5; a falling mark per cell, free in value
 unfoldable pub cellsOk : Mine → Bool
@@ -30,8 +30,8 @@ apart [] = true
 apart (e ∷ es) = not (any (standsAt (e .x) (e .y)) es) && apart es
 
 -- a slot that holds zeros
-abbrev pub blank : Enemy → Bool
-blank e = eqb (e .x) 0 && eqb (e .y) 0 && eqb (e .dir) 0
+abbrev pub isBlank : Enemy → Bool
+isBlank e = eqb (e .x) 0 && eqb (e .y) 0 && eqb (e .dir) 0
 
 -- at most 8 creatures, each right by itself, no two on one cell; slots past the count hold zeros
 unfoldable pub creaturesOk : Mine → Bool
@@ -40,7 +40,7 @@ creaturesOk m =
     && leb (m .count) MAX-ENEMIES
     && all (creatureOk (m .grid)) (creatures m)
     && apart (creatures m)
-    && all blank (drop (m .count) (m .enemies))
+    && all isBlank (drop (m .count) (m .enemies))
 
 -- coins in hand plus coin cells at most 336; needed 1 to 336
 unfoldable pub numbersOk : Mine → Bool
@@ -68,19 +68,9 @@ pub record WellFormed (m : Mine) : Type 0 where
   pub few : m .count ≤ MAX-ENEMIES
   pub each : all (creatureOk (m .grid)) (creatures m) ≡ true
   pub distinct : apart (creatures m) ≡ true
-  pub rest : all blank (drop (m .count) (m .enemies)) ≡ true
+  pub rest : all isBlank (drop (m .count) (m .enemies)) ≡ true
   pub coins : purse m ≤ AREA
   pub asked : (1 ≤ m .needed) × (m .needed ≤ AREA)
-
--- the part of it that the rules' code needs, and that every single step keeps
-pub record Sound (m : Mine) : Type 0 where
-  pub cells : length (m .grid) ≡ AREA
-  pub marks : length (m .falling) ≡ AREA
-  pub slots : length (m .enemies) ≡ MAX-ENEMIES
-  pub few : m .count ≤ MAX-ENEMIES
-  pub placed : allOnMap (m .enemies) ≡ true
-  pub home : (m .px < W) × (m .py < H)
-  pub coins : purse m ≤ AREA
 
 -- the number at a cell of a well-formed state is never above 1
 abbrev pub Alone : Type 0

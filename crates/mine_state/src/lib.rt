@@ -1,6 +1,7 @@
 // Block Mine: the state.
 ghost use mathlib.Core.Path.{_≡_};
-ghost use Rattle.mine_state.specs.State.{AREA, codeIn, standsAt, CellOf};
+ghost use Rattle.mine_state.specs.State.{AREA, codeIn, standsAt};
+ghost use Rattle.mine_state.specs.CodeState.{CellOf};
 
 // Level dimensions, in tiles.
 pub const W: usize = 24;

@@ -7,27 +7,26 @@ use lib.Dec.{eqb, ltb}
 use lib.ListN.{drop}
 use borrow.Author.Tests.{lt-ltb, le-ltb}
 use Rattle.mine_state.specs.declared.Mine.{Mine}
-use Rattle.mine_rules.specs.Ways.{UP, RIGHT, DOWN, LEFT}
 use Rattle.mine_rules.specs.Move.{moved}
-use Rattle.mine_pass.specs.Pass.{KEY-QUIT, keyed, played}
-use Rattle.mine_pass.specs.declared.Played.{Played}
-use Rattle.mine_turn.specs.Parts.{dirOf}
+use Rattle.mine_pass.specs.Pass.{keyed, played}
+use Rattle.mine_turn.specs.CodeParts.{dirOf}
+use Rattle.controls.specs.Keys.{UP, RIGHT, DOWN, LEFT, KEY-QUIT, Played, keyedBy, playedBy}
 
 -- A loop over the keys: what is left of them makes R of the state.
-module _ (s : Mine) (keys : List ℕ) (i : ℕ) {R : Played} where
+module _ (s : Mine) (keys : List ℕ) (i : ℕ) {R : Played Mine} where
   keys-more : {key : ℕ} → drop i keys ≡ key ∷ drop (i + 1) keys → played s (drop i keys) ≡ R → eqb key KEY-QUIT ≡ false → played (keyed s key) (drop (i + 1) keys) ≡ R
-  unfolding played
+  unfolding playedBy
   keys-more h e n = rw (h, n) at e
 
   pub keys-turn : {key : ℕ} {s′ : Mine} → drop i keys ≡ key ∷ drop (i + 1) keys → played s (drop i keys) ≡ R → eqb key KEY-QUIT ≡ false → keyed s key ≡ s′ → played s′ (drop (i + 1) keys) ≡ R
   keys-turn h e n q = subst (λ (m : Mine). played m (drop (i + 1) keys) ≡ R) q (keys-more h e n)
 
   pub keys-quit : {key : ℕ} → drop i keys ≡ key ∷ drop (i + 1) keys → played s (drop i keys) ≡ R → eqb key KEY-QUIT ≡ true → record { quit = true; game = s } ≡ R
-  unfolding played
+  unfolding playedBy
   keys-quit h e n = rw (h, n) at e
 
   pub keys-end : drop i keys ≡ [] → played s (drop i keys) ≡ R → record { quit = false; game = s } ≡ R
-  unfolding played
+  unfolding playedBy
   keys-end h e = rw h at e
 
 -- a key by its direction
@@ -40,7 +39,7 @@ by-ways m false false false false = refl
 
 module _ (m : Mine) (key : ℕ) {d : ℕ} (e : d ≡ dirOf key) where
   keyed-by : keyed m key ≡ cond (ltb d 4) (moved m d) m
-  unfolding keyed
+  unfolding keyedBy
   keyed-by = by-ways m (eqb key 5) (eqb key 8) (eqb key 7) (eqb key 9) ∙ ap (λ (k : ℕ). cond (ltb k 4) (moved m k) m) (sym e)
 
   pub key-moves : d < 4 → {t : Mine} → moved m d ≡ t → keyed m key ≡ t

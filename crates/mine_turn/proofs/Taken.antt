@@ -8,18 +8,18 @@ use Rattle.mine_state.specs.declared.Enemy.{Enemy}
 use Rattle.mine_state.specs.WellFormed.{WellFormed}
 use Rattle.mine_state.proofs.Facts.{sound}
 use Rattle.mine_rules.specs.Gravity.{gravityOf}
-use Rattle.mine_apart.specs.Apart.{joined, Apart}
+use Rattle.mine_apart.specs.CodeApart.{joined, Apart}
 use Rattle.mine_moves.specs.declared.moves.Player.{Player}
-use Rattle.mine_moves.specs.Steps.{playing, Walkers}
+use Rattle.mine_moves.specs.CodeSteps.{playing, Walkers}
 use Rattle.mine_fall.specs.declared.Fallen.{Fallen}
-use Rattle.mine_fall.specs.Places.{whole, Falling, Dropped}
+use Rattle.mine_fall.specs.CodePlaces.{whole, Falling, Dropped}
 use Rattle.mine_fall.proofs.Parts.{numbers, sound-whole}
-use Rattle.mine_pass.specs.declared.Played.{Played}
 use Rattle.mine_turn.specs.declared.Pressed.{Pressed}
 use Rattle.mine_pass.specs.Pass.{played}
-use Rattle.mine_turn.specs.Parts.{Ready, Plays}
+use Rattle.mine_turn.specs.CodeParts.{Ready, Plays}
 use Rattle.mine_pass.proofs.Keys.{keys-kept}
 use Rattle.mine_pass.proofs.Kept.{fallen-kept}
+use Rattle.controls.specs.Keys.{Played}
 
 -- the player's part of a state
 abbrev pub playerOf : Mine → Player
@@ -46,7 +46,7 @@ module _ (m : Mine) (w : WellFormed m) {xs ys ds : List ℕ} (q : joined xs ys d
         sym (e (m .falling) ds (a .ways)) ∙ ap (λ (es : List Enemy). played (playing (m .falling) (m .grid) es (m .count) (playerOf m)) keys) q
 
     keyed-formed : WellFormed keyedGame
-    keyed-formed = subst (λ (p : Played). WellFormed (p .game)) (sym keyed-state) (keys-kept m keys w .formed)
+    keyed-formed = subst (λ (p : Played Mine). WellFormed (p .game)) (sym keyed-state) (keys-kept m keys w .formed)
 
     abbrev falls : Fallen
     falls = numbers (m .count) (r .player .coins) (r .player .dead)

@@ -1,5 +1,14 @@
 // One turn of Block Mine's loop: what is left of it when keys, clock and record are numbers.
 use answer::Answer;
+use controls::DOWN;
+use controls::KEY_DOWN;
+use controls::KEY_LEFT;
+use controls::KEY_QUIT;
+use controls::KEY_RIGHT;
+use controls::KEY_UP;
+use controls::LEFT;
+use controls::RIGHT;
+use controls::UP;
 use mine_apart::dirs_of;
 use mine_apart::enemies_of;
 use mine_apart::xs_of;
@@ -12,17 +21,8 @@ use mine_moves::step_on;
 use mine_moves::tick_on;
 use mine_pass::ENEMY_CYCLES;
 use mine_pass::GRAVITY_CYCLES;
-use mine_pass::KEY_DOWN;
-use mine_pass::KEY_LEFT;
-use mine_pass::KEY_QUIT;
-use mine_pass::KEY_RIGHT;
-use mine_pass::KEY_UP;
 use mine_pass::MinePassed;
 use mine_pass::MineTurn;
-use mine_rules::DOWN;
-use mine_rules::LEFT;
-use mine_rules::RIGHT;
-use mine_rules::UP;
 use mine_state::AREA;
 use mine_state::MAX_ENEMIES;
 use mine_state::Mine;
@@ -31,12 +31,12 @@ use refusal::Refusal;
 ghost use mathlib.Core.Bool.{cond};
 ghost use mathlib.Core.Path.{_≡_};
 ghost use Rattle.mine_state.specs.WellFormed.{WellFormed};
-ghost use Rattle.mine_rules.specs.Tick.{ticked};
+ghost use Rattle.mine_rules.specs.Tick.{enemiesMoved};
 ghost use Rattle.mine_rules.specs.Gravity.{gravityOf};
-ghost use Rattle.mine_moves.specs.Steps.{Walkers, Ticked};
-ghost use Rattle.mine_fall.specs.Places.{Falling, Dropped};
+ghost use Rattle.mine_moves.specs.CodeSteps.{Walkers, Ticked};
+ghost use Rattle.mine_fall.specs.CodePlaces.{Falling, Dropped};
 ghost use Rattle.mine_pass.specs.Pass.{played, afterKeys, passAt};
-ghost use Rattle.mine_turn.specs.Parts.{dirOf, Ready, Keyed, Plays};
+ghost use Rattle.mine_turn.specs.CodeParts.{dirOf, Ready, Keyed, Plays};
 
 // The player's part after the keys, where the rest is lent, and whether one of them quit.
 pub struct Pressed {
@@ -138,7 +138,7 @@ fn enemies_if(
     py: usize,
 ) -> bool
     requires { ⌜ Walkers (now grid) (now xs) (now ys) (now dirs) count ⌝ }
-    ensures { λ r. ⌜ Ticked (λ m. cond due (ticked m) m) (now (grid .entry)) count px py (now (xs .entry)) (now (ys .entry)) (now (dirs .entry)) r (now (xs .exit)) (now (ys .exit)) (now (dirs .exit)) ⌝ }
+    ensures { λ r. ⌜ Ticked (λ m. cond due (enemiesMoved m) m) (now (grid .entry)) count px py (now (xs .entry)) (now (ys .entry)) (now (dirs .entry)) r (now (xs .exit)) (now (ys .exit)) (now (dirs .exit)) ⌝ }
 {
     if due {
         return tick_on(grid, xs, ys, dirs, count, px, py);

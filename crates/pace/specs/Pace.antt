@@ -22,8 +22,8 @@ abbrev pub markAfter : Bool → ℕ → ℕ → ℕ
 markAfter due time mark = cond due time mark
 
 -- both ticks of a reading, each against its own mark and interval
-abbrev pub ticked : (time first second interval interval2 : ℕ) → Ticks
-ticked time first second interval interval2 =
+abbrev pub bothTicks : (time first second interval interval2 : ℕ) → Ticks
+bothTicks time first second interval interval2 =
     let due : Bool = dueAt time first interval in
     let due2 : Bool = dueAt time second interval2 in
     record { one = due; two = due2; first = markAfter due time first; second = markAfter due2 time second }

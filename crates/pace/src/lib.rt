@@ -1,6 +1,6 @@
 // The pacing record: two clock marks, and which ticks a reading makes due.
 ghost use mathlib.Core.Path.{_≡_};
-ghost use Rattle.pace.specs.Pace.{started, dueAt, markAfter, ticked};
+ghost use Rattle.pace.specs.Pace.{started, dueAt, markAfter, bothTicks};
 
 #[repr(C)]
 pub struct Pace {
@@ -41,7 +41,7 @@ fn mark_after(reached: bool, time: u32, mark: u32) -> u32
 
 // Both ticks of a reading, each against its own mark and interval.
 pub fn both_ticks(time: u32, first: u32, second: u32, interval: u32, interval2: u32) -> Ticks
-    ensures { λ r. ⌜ r ≡ ticked time first second interval interval2 ⌝ }
+    ensures { λ r. ⌜ r ≡ bothTicks time first second interval interval2 ⌝ }
 {
     let one = due(time, first, interval);
     let two = due(time, second, interval2);

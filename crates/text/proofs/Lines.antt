@@ -8,7 +8,7 @@ use Rattle.laws.proofs.Lists.{drop-one}
 use Rattle.text.specs.declared.Says.{Says}
 use Rattle.text.specs.declared.Says.the-variants.{Nothing, Numbers, Refused}
 use Rattle.text.specs.Text.{SPACE, NEWLINE, DIGITS, NUMBERS, LINE, decimal, further, numbersLine, refusedLine, lineOf}
-use Rattle.text.specs.Puts.{Puts}
+use Rattle.text.specs.CodePuts.{Puts}
 use Rattle.text.proofs.Decimal.{length-decimal}
 use Rattle.text.proofs.Puts.{puts-both, puts-byte}
 

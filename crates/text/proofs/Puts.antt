@@ -7,7 +7,7 @@ use native.Mathlib.Numerals.{add-one}
 use native.Mathlib.Omega.{arith}
 use lib.ListN.{length, take, set, getD, length-append, length-take, length-set}
 use lib.Seq.{take-suc, take-suc-set, take-all}
-use Rattle.text.specs.Puts.{Puts}
+use Rattle.text.specs.CodePuts.{Puts}
 
 pub puts-none : (at : ℕ) (l : List ℕ) → Puts [] at l at l
 puts-none at l = record { ends = omega arith; size = refl; holds = sym (append-nil (take at l)) }

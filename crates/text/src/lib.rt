@@ -4,7 +4,7 @@ ghost use Prim.Native.Nat.{_+_, _≤_};
 ghost use mathlib.Core.Path.{_≡_};
 ghost use lib.ListN.{length};
 ghost use Rattle.text.specs.Text.{DIGITS, LINE, decimal, numbersLine, refusedLine, lineOf};
-ghost use Rattle.text.specs.Puts.{Puts};
+ghost use Rattle.text.specs.CodePuts.{Puts};
 
 // The numbers of a line.
 pub const NUMBERS: usize = 7;

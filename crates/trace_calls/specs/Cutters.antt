@@ -18,7 +18,7 @@ use Rattle.trace_words.specs.Numbers.{MARK, byteAt, wordAt, pairIn}
 use Rattle.trace_verdict.specs.declared.Head.{Head}
 use Rattle.trace_verdict.specs.declared.Part.{Part}
 use Rattle.trace_calls.specs.Either.{onEither}
-use Rattle.trace_calls.specs.Shared.{exactly, atLeast, stays, cutterTold, drawn, staleOf}
+use Rattle.trace_calls.specs.Shared.{exactly, atLeast, stays, cutterTold, showed, staleOf}
 
 -- a reading and a number of keys stand before the keys of a pass
 abbrev pub BEFORE-KEYS : ℕ
@@ -63,7 +63,7 @@ module _ (h : Head) (args current state result : List ℕ) where
 
   -- 24: length of the frame, 2 bytes
   unfoldable pub cutterPictured : Cutter → Part
-  cutterPictured c = exactly 2 args (drawn h current state result (pictureOf c (staleOf (wordAt 2 0 args))))
+  cutterPictured c = exactly 2 args (showed h current state result (pictureOf c (staleOf (wordAt 2 0 args))))
 
   -- 25: black, claimed, line, share, 2 bytes each
   abbrev pub ground : Ground → Part

@@ -17,7 +17,7 @@ use Rattle.trace_words.specs.Numbers.{MARK, byteAt, wordAt}
 use Rattle.trace_verdict.specs.declared.Head.{Head}
 use Rattle.trace_verdict.specs.declared.Part.{Part}
 use Rattle.trace_calls.specs.Either.{onEither}
-use Rattle.trace_calls.specs.Shared.{exactly, atLeast, mineTold, drawn, staleOf}
+use Rattle.trace_calls.specs.Shared.{exactly, atLeast, mineTold, showed, staleOf}
 
 module _ (h : Head) (args current state result : List ℕ) where
   abbrev pub answered : Pace → MineAnswer → Part
@@ -44,7 +44,7 @@ module _ (h : Head) (args current state result : List ℕ) where
 
   -- 6: length of the frame, 2 bytes
   unfoldable pub minePictured : Mine → Part
-  minePictured m = exactly 2 args (drawn h current state result (pictureOf m (staleOf (wordAt 2 0 args))))
+  minePictured m = exactly 2 args (showed h current state result (pictureOf m (staleOf (wordAt 2 0 args))))
 
   -- 32: reading, 4 bytes
   unfoldable pub mineStarted : Mine → Part

@@ -46,8 +46,8 @@ module _ (h : Head) (current state result : List ℕ) where
   cutterTold refusal answer c p = compared h current state result refusal answer (cutterBytes c (p .first) (p .second)) []
 
   -- a picture: the refusal number, and the frame after
-  abbrev pub drawn : ℕ × List ℕ → Part
-  drawn f = stays (f .0) (f .1)
+  abbrev pub showed : ℕ × List ℕ → Part
+  showed f = stays (f .0) (f .1)
 
 -- the frame of n bytes before its picture
 abbrev pub staleOf : ℕ → List ℕ

@@ -1,12 +1,12 @@
 // The calls of Block Cutter.
-use cutter::CutterAnswer;
-use cutter_state::Cutter;
-use pace::Pace;
 use crate::shared::START;
 use crate::shared::cutter_told;
 use crate::shared::marks_of;
 use crate::shared::on_either;
 use crate::shared::stale;
+use cutter::CutterAnswer;
+use cutter_state::Cutter;
+use pace::Pace;
 use trace_questions::NONE;
 use trace_states::CUTTER;
 use trace_states::cutter_of;

@@ -1,12 +1,12 @@
 // The calls of Block Mine.
-use mine::MineAnswer;
-use mine_state::Mine;
-use pace::Pace;
 use crate::shared::START;
 use crate::shared::marks_of;
 use crate::shared::mine_told;
 use crate::shared::on_either;
 use crate::shared::stale;
+use mine::MineAnswer;
+use mine_state::Mine;
+use pace::Pace;
 use trace_questions::NONE;
 use trace_states::MINE;
 use trace_states::mine_of;

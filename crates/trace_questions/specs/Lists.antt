@@ -6,7 +6,7 @@ use lib.Dec.{ltb}
 use lib.IntN.{pos}
 use lib.ListN.{length}
 use Rattle.laws.specs.Lists.{table}
-use Rattle.cutter_ground.specs.Cells as Ground
+use Rattle.cutter_ground.specs.Movers as Ground
 use Rattle.cutter_ground.specs.declared.Mover.{Mover}
 use Rattle.mine_state.specs.State as Mine
 use Rattle.mine_state.specs.declared.Enemy.{Enemy}

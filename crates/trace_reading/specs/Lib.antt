@@ -1,2 +1,2 @@
-pub mod Buffers
+pub mod CodeBuffers
 pub mod Entry

@@ -1,10 +1,10 @@
 // A trace from standard input to its end, entry by entry.
-use libc::STDIN_FILENO;
 use crate::entry::SET;
 use crate::entry::judge;
-use std::num::wrapping_add_u64;
 use crate::telling::say_difference;
 use crate::telling::say_verdict;
+use libc::STDIN_FILENO;
+use std::num::wrapping_add_u64;
 use trace_verdict::Head;
 use trace_verdict::Part;
 use trace_words::put_cells;
@@ -13,7 +13,7 @@ ghost use Prim.Native.Nat.{_<_};
 ghost use mathlib.Core.Path.{_≡_};
 ghost use lib.ListN.{length};
 ghost use Rattle.trace_words.specs.Numbers.{InWord};
-ghost use Rattle.trace_reading.specs.Buffers.{HEADER, BODY, MOST, Lengths, Buffers};
+ghost use Rattle.trace_reading.specs.CodeBuffers.{HEADER, BODY, MOST, Lengths, Buffers};
 
 // A header's bytes.
 const HEADER: usize = 12;

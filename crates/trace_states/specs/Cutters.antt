@@ -3,10 +3,11 @@
 use mathlib.Core.List.{List, _++_}
 use Prim.Native.Nat.{ℕ, _+_, _*_}
 use Rattle.laws.specs.Lists.{bit, table}
-use Rattle.cutter_ground.specs.Cells.{CN, MAX-ENEMIES}
+use Rattle.cutter_ground.specs.Cells.{CN}
 use Rattle.cutter_ground.specs.declared.Mover.{Mover}
 use Rattle.cutter_state.specs.declared.Cutter.{Cutter}
 use Rattle.trace_words.specs.Numbers.{byteAt, wordAt, bytesIn, pairIn, signedOf, byteOf, flagAt, cellsAt, flat, PLACE, MARK}
+use Rattle.cutter_ground.specs.Movers.{MAX-ENEMIES}
 
 abbrev pub CUTTER : ℕ
 CUTTER = 2157

@@ -17,7 +17,7 @@ ghost use mathlib.Core.Path.{_≡_};
 ghost use lib.ListN.{length};
 ghost use Rattle.cutter_ground.specs.Cells.{CN};
 ghost use Rattle.trace_words.specs.Numbers.{flat};
-ghost use Rattle.trace_words.specs.Lays.{Lays};
+ghost use Rattle.trace_words.specs.CodeLays.{Lays};
 ghost use Rattle.trace_states.specs.Cutters.{CUTTER, MOVER, SLOTS, PLAYER, moverAt, moversAt, cutterOf, moverBytes, playerBytes, cutterBytes};
 
 pub const CUTTER: usize = 2157;

@@ -17,7 +17,7 @@ ghost use lib.ListN.{length};
 ghost use Rattle.laws.specs.Lists.{bit};
 ghost use Rattle.mine_state.specs.State.{AREA};
 ghost use Rattle.trace_words.specs.Numbers.{flat};
-ghost use Rattle.trace_words.specs.Lays.{Lays};
+ghost use Rattle.trace_words.specs.CodeLays.{Lays};
 ghost use Rattle.trace_states.specs.Mines.{MINE, ENEMY, SLOTS, enemyAt, enemiesAt, fallingAt, mineOf, enemyBytes, mineBytes};
 
 pub const MINE: usize = 850;

@@ -7,7 +7,7 @@ use native.Mathlib.Numerals.{add-one}
 use native.Mathlib.Omega.{arith}
 use lib.ListN.{length, take, set, length-append, length-set}
 use lib.Seq.{take-suc-set, take-all}
-use Rattle.trace_words.specs.Lays.{Lays}
+use Rattle.trace_words.specs.CodeLays.{Lays}
 
 pub lays-none : (at : ℕ) (l : List ℕ) → Lays [] 0 at l l
 lays-none at l = record { long = refl; size = refl; holds = rw (add-zero at) (sym (append-nil (take at l))) }

@@ -8,7 +8,7 @@ use lib.ListN.{length, take, getD, set}
 use lib.Seq.{take-suc, take-suc-set, take-all}
 use Rattle.laws.specs.Lists.{table}
 use Rattle.trace_words.specs.Numbers.{flat}
-use Rattle.trace_words.specs.Lays.{Lays}
+use Rattle.trace_words.specs.CodeLays.{Lays}
 use Rattle.trace_words.proofs.Lays.{lays-both, lays-as}
 
 pub take-more : {A : Type 0} (l : List A) (i : ℕ) (d : A) → i < length l → take i l ++ (getD l i d ∷ []) ≡ take (i + 1) l

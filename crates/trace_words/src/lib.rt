@@ -3,7 +3,7 @@ ghost use Prim.Native.Nat.{_+_, _≤_};
 ghost use mathlib.Core.Path.{_≡_};
 ghost use lib.ListN.{length};
 ghost use Rattle.trace_words.specs.Numbers.{bytesIn, pairIn, signedOf, byteOf, cellsAt, InWord, Word};
-ghost use Rattle.trace_words.specs.Lays.{Lays};
+ghost use Rattle.trace_words.specs.CodeLays.{Lays};
 
 // The width of a place or a count, and of a number of 32 bits.
 pub const PLACE: usize = 8;

@@ -12,7 +12,7 @@ ghost use lib.ListN.{length, getD, take};
 ghost use Rattle.laws.specs.Lists.{tally};
 ghost use Rattle.cutter_ground.specs.Cells.{CN};
 ghost use Rattle.cutter_sweeps.specs.Sweeps.{Settled};
-ghost use Rattle.cutter_sweeps.specs.Table.{Numbers};
+ghost use Rattle.cutter_sweeps.specs.CodeTable.{Numbers};
 ghost use Rattle.trainer.specs.Regions.{onNumber};
 
 fn say(text: &[u8]) {

@@ -3,7 +3,7 @@ use mathlib.Core.Path.{_≡_, subst}
 use Prim.Native.Nat.{ℕ, _-_, _≤_}
 use native.Mathlib.Omega.{arith}
 use denote.Ref.{now}
-use Rattle.cutter_capture.specs.Choosing.{Marked}
+use Rattle.cutter_capture.specs.CodeChoosing.{Marked}
 use Rattle.cutter_capture.proofs.Marks.{marked-start, marked-turn}
 use Rattle.cutter_capture.proofs.mark.Statement.{statement}
 use Rattle.cutter_capture.proofs.mark.Tie as tie

@@ -10,13 +10,12 @@ use denote.Ref.{now}
 use Rattle.laws.specs.Lists.{bit}
 use Rattle.laws.proofs.Lists.{mapped}
 use Rattle.laws.proofs.Counts.{count-take}
-use Rattle.cutter_ground.specs.Cells.{MAX-ENEMIES}
-use Rattle.cutter_ground.specs.Visit.{SEEN}
-use Rattle.cutter_closing.specs.Closing.{blank}
-use Rattle.cutter_capture.specs.Steps.{markOf, having}
+use Rattle.cutter_ground.specs.CodeVisit.{SEEN}
+use Rattle.cutter_capture.specs.CodeSteps.{markOf, having}
 use Rattle.cutter_capture.proofs.Herds.{on-grid}
 use Rattle.cutter_capture.proofs.standing.Statement.{statement}
 use Rattle.cutter_capture.proofs.standing.Tie as tie
+use Rattle.cutter_ground.specs.Movers.{MAX-ENEMIES, blankSlot}
 
 abbrev Inv-loop : tie.InvT-loop
 Inv-loop seen count enemies n₀ i₀ n i = (i ≤ count) × (n ≤ i) × (n ≡ having seen (take i enemies) SEEN)
@@ -39,7 +38,7 @@ cell-of-requires c κs = search needs
 element-copy-out-if1 : tie.Need-element-copy-out-if1 Inv-loop μ-loop
 element-copy-out-if1 c =
     let a = c .before .before .before in
-    let h = on-grid (a .before .pre .1) (a .loop .i) blank (c .before .before .loop-test .taken) (omega arith) in
+    let h = on-grid (a .before .pre .1) (a .loop .i) blankSlot (c .before .before .loop-test .taken) (omega arith) in
     omega (arith, c .cell-of .ensures)
 
 add-n : tie.Need-add-n Inv-loop μ-loop
@@ -59,13 +58,13 @@ loop-again c =
     let cs = a .before .args .t2 in
     let l : length cs ≡ MAX-ENEMIES = search (needs, mapped) in
     let inn : a .loop .i < length cs = omega (arith, a .before .pre .1) in
-    let e : markOf N (getD cs (a .loop .i) blank) ≡ getD N (c .before .before .cell-of .result) 0 = ap (λ (x : ℕ). getD N x 0) (sym (c .before .before .cell-of .ensures)) in
-    let m = count-take (λ m. eqb (markOf N m) SEEN) cs (a .loop .i) blank inn in
+    let e : markOf N (getD cs (a .loop .i) blankSlot) ≡ getD N (c .before .before .cell-of .result) 0 = ap (λ (x : ℕ). getD N x 0) (sym (c .before .before .cell-of .ensures)) in
+    let m = count-take (λ m. eqb (markOf N m) SEEN) cs (a .loop .i) blankSlot inn in
     let p = a .loop .inv .1 in
     let q = a .loop .inv .2 in
     ⊎-elim
-    (λ w. let b : bit (eqb (markOf N (getD cs (a .loop .i) blank)) SEEN) ≡ 1 = ap bit (eq-eqb _ _ (e ∙ w .0 .taken)) in (omega arith, omega (arith, w .1), w .1 ∙ omega arith))
-    (λ w. let b : bit (eqb (markOf N (getD cs (a .loop .i) blank)) SEEN) ≡ 0 = ap bit (ne-eqb _ _ (λ z. w .0 .left (sym e ∙ z))) in (omega arith, omega (arith, w .1), w .1 ∙ omega arith))
+    (λ w. let b : bit (eqb (markOf N (getD cs (a .loop .i) blankSlot)) SEEN) ≡ 1 = ap bit (eq-eqb _ _ (e ∙ w .0 .taken)) in (omega arith, omega (arith, w .1), w .1 ∙ omega arith))
+    (λ w. let b : bit (eqb (markOf N (getD cs (a .loop .i) blankSlot)) SEEN) ≡ 0 = ap bit (ne-eqb _ _ (λ z. w .0 .left (sym e ∙ z))) in (omega arith, omega (arith, w .1), w .1 ∙ omega arith))
     (c .if1 .came)
 
 returns : tie.Need-returns Inv-loop μ-loop

@@ -1,13 +1,13 @@
 use mir.Syntax.{w8}
 use mir.Val.{SFits}
 use borrow.Author.Needs.{needs}
-use Rattle.cutter_state.specs.WellFormed.{blank}
+use Rattle.cutter_state.specs.WellFormed.{isBlank}
 use Rattle.cutter_state.proofs.Signs.{zero-bits}
 use Rattle.cutter_check.proofs.blank_slot.Statement.{statement}
 use Rattle.cutter_check.proofs.blank_slot.Tie as tie
 
 returns : tie.Need-returns
-unfolding blank
+unfolding isBlank
 returns c =
     let e = c .before .before .before .before .before .before .args .e in
     let fx : SFits w8 (e .vx) = search needs in

@@ -6,7 +6,6 @@ use lib.ListN.{length}
 use borrow.Author.Tests.{eq-eqb, not-true, not-false}
 use borrow.Author.Needs.{needs}
 use Rattle.laws.proofs.Lists.{mapped}
-use Rattle.cutter_ground.specs.Cells.{MAX-ENEMIES}
 use Rattle.cutter_state.specs.WellFormed.{playerOk, creaturesOk, refusalOf}
 use Rattle.cutter_check.proofs.check.Statement.{statement}
 use Rattle.cutter_check.proofs.check.Tie as tie
@@ -16,6 +15,7 @@ use Rattle.cutter_check.proofs.cells_ok.Reads as cells-ok-reads
 use Rattle.cutter_check.proofs.player_ok.Reads as player-ok-reads
 use Rattle.cutter_check.proofs.creatures_ok.Reads as creatures-ok-reads
 use Rattle.cutter_check.proofs.numbers_ok.Reads as numbers-ok-reads
+use Rattle.cutter_ground.specs.Movers.{MAX-ENEMIES}
 
 -- what the types of the parameter tell
 abbrev Began : Type 0

@@ -6,14 +6,14 @@ use denote.Ref.{now}
 use borrow.Author.Needs.{needs}
 use Rattle.laws.proofs.Below.{below-turn}
 use Rattle.laws.specs.Lists.{allBelow}
-use Rattle.cutter_ground.specs.Cells.{CW, CH}
-use Rattle.cutter_state.specs.WellFormed.{columnsFilled, filledAt}
+use Rattle.cutter_ground.specs.Cells.{CW, CH, claimedAt, place}
+use Rattle.cutter_state.specs.WellFormed.{columnsFilled}
 use Rattle.cutter_state.proofs.Ring.{filled-read}
 use Rattle.cutter_check.proofs.columns_filled.Statement.{statement}
 use Rattle.cutter_check.proofs.columns_filled.Tie as tie
 
 abbrev Inv-loop : tie.InvT-loop
-Inv-loop grid ok₀ y₀ ok y = (y ≤ CH) × (ok ≡ allBelow y (λ y. filledAt grid 0 y && filledAt grid (CW - 1) y))
+Inv-loop grid ok₀ y₀ ok y = (y ≤ CH) × (ok ≡ allBelow y (λ y. claimedAt grid (place 0 y) && claimedAt grid (place (CW - 1) y)))
 
 abbrev μ-loop : tie.MeasureT-loop
 μ-loop grid ok₀ y₀ ok y = CH - y
@@ -52,7 +52,7 @@ loop-again c =
     let h = c .before .before .loop-test .taken in
     let a = filled-read g (k .loop .y * 64) 0 (k .loop .y) (k .before .pre) (omega arith) (omega arith) (omega arith) in
     let b = filled-read g (k .loop .y * 64 + 63) 63 (k .loop .y) (k .before .pre) (omega arith) (omega arith) (omega arith) in
-    (omega arith, below-turn (λ y. filledAt g 0 y && filledAt g (CW - 1) y) (k .loop .y) (ap₂ _&&_ a b) (k .loop .inv .1))
+    (omega arith, below-turn (λ y. claimedAt g (place 0 y) && claimedAt g (place (CW - 1) y)) (k .loop .y) (ap₂ _&&_ a b) (k .loop .inv .1))
 
 returns : tie.Need-returns Inv-loop μ-loop
 unfolding columnsFilled

@@ -5,9 +5,10 @@ use denote.Ref.{now}
 use borrow.Author.Tests.{lt-ltb, le-ltb}
 use borrow.Author.Needs.{needs}
 use Rattle.laws.proofs.Lists.{getD-default}
-use Rattle.cutter_state.specs.State.{holdsAt, place}
+use Rattle.cutter_state.specs.State.{holdsAt}
 use Rattle.cutter_check.proofs.holds.Statement.{statement}
 use Rattle.cutter_check.proofs.holds.Tie as tie
+use Rattle.cutter_ground.specs.Cells.{place}
 
 returns : tie.Need-returns
 unfolding holdsAt

@@ -7,7 +7,7 @@ use denote.Ref.{now}
 use borrow.Author.Needs.{needs}
 use Rattle.laws.proofs.Lists.{drop-one, drop-end}
 use Rattle.cutter_ground.specs.Cells.{CN}
-use Rattle.cutter_check.specs.Passes.{largestOf}
+use Rattle.cutter_check.specs.CodePasses.{largestOf}
 use Rattle.cutter_check.proofs.Codes.{largest-more, largest-same, largest-end}
 use Rattle.cutter_check.proofs.largest.Statement.{statement}
 use Rattle.cutter_check.proofs.largest.Tie as tie

@@ -7,10 +7,10 @@ use borrow.Author.Tests.{not-true, not-false}
 use borrow.Author.Needs.{needs}
 use Rattle.laws.proofs.Lists.{mapped, taken-one, taken-end, all-more, all-fails, all-end}
 use Rattle.laws.specs.Lists.{all}
-use Rattle.cutter_ground.specs.Cells.{MAX-ENEMIES}
 use Rattle.cutter_state.specs.WellFormed.{moverOk}
 use Rattle.cutter_check.proofs.movers_ok.Statement.{statement}
 use Rattle.cutter_check.proofs.movers_ok.Tie as tie
+use Rattle.cutter_ground.specs.Movers.{MAX-ENEMIES}
 
 abbrev Inv-loop : tie.InvT-loop
 Inv-loop grid count enemies i₀ i = (i ≤ count) × (all (moverOk grid) (drop i (take count enemies)) ≡ all (moverOk grid) (take count enemies))

@@ -6,13 +6,13 @@ use borrow.Author.Tests.{not-true, not-false}
 use borrow.Author.Needs.{needs}
 use Rattle.laws.proofs.Lists.{mapped, mapped-below, drop-one, drop-end, all-more, all-fails, all-end}
 use Rattle.laws.specs.Lists.{all}
-use Rattle.cutter_ground.specs.Cells.{MAX-ENEMIES}
-use Rattle.cutter_state.specs.WellFormed.{blank}
+use Rattle.cutter_state.specs.WellFormed.{isBlank}
 use Rattle.cutter_check.proofs.rest_blank.Statement.{statement}
 use Rattle.cutter_check.proofs.rest_blank.Tie as tie
+use Rattle.cutter_ground.specs.Movers.{MAX-ENEMIES}
 
 abbrev Inv-loop : tie.InvT-loop
-Inv-loop count enemies i₀ i = (i ≤ MAX-ENEMIES) × (all blank (drop i enemies) ≡ all blank (drop count enemies))
+Inv-loop count enemies i₀ i = (i ≤ MAX-ENEMIES) × (all isBlank (drop i enemies) ≡ all isBlank (drop count enemies))
 
 abbrev μ-loop : tie.MeasureT-loop
 μ-loop count enemies i₀ i = MAX-ENEMIES - i
@@ -33,7 +33,7 @@ returns : tie.Need-returns Inv-loop μ-loop
 returns c =
     let k = c .before .before .before .before in
     let es = k .before .args .t1 in
-    all-fails blank es (k .loop .i)
+    all-fails isBlank es (k .loop .i)
     (drop-one es (k .loop .i) _ (search (needs, mapped-below)))
     (k .loop .inv .1)
     (sym (c .before .blank-slot .ensures) ∙ not-true _ (c .if1 .taken))
@@ -49,7 +49,7 @@ loop-again c =
     let k = c .before .before .before .before in
     let es = k .before .args .t1 in (
       omega arith,
-      all-more blank es (k .loop .i)
+      all-more isBlank es (k .loop .i)
           (drop-one es (k .loop .i) _ (search (needs, mapped-below)))
           (k .loop .inv .1)
           (sym (c .before .blank-slot .ensures) ∙ not-false _ (c .if1 .left)),
@@ -60,7 +60,7 @@ returns-2 c =
     let k = c .before in
     let es = k .before .args .t1 in
     let e : k .loop .i ≡ MAX-ENEMIES = omega (arith, k .loop .inv .0, c .loop-test) in
-    all-end blank es MAX-ENEMIES (drop-end es MAX-ENEMIES (search (needs, mapped))) (rw e at (k .loop .inv .1))
+    all-end isBlank es MAX-ENEMIES (drop-end es MAX-ENEMIES (search (needs, mapped))) (rw e at (k .loop .inv .1))
 
 pub rest-blank-spec : {M : Type 1} → statement M
 rest-blank-spec =

@@ -6,14 +6,14 @@ use denote.Ref.{now}
 use borrow.Author.Needs.{needs}
 use Rattle.laws.proofs.Below.{below-turn}
 use Rattle.laws.specs.Lists.{allBelow}
-use Rattle.cutter_ground.specs.Cells.{CW, CH}
-use Rattle.cutter_state.specs.WellFormed.{rowsFilled, filledAt}
+use Rattle.cutter_ground.specs.Cells.{CW, CH, claimedAt, place}
+use Rattle.cutter_state.specs.WellFormed.{rowsFilled}
 use Rattle.cutter_state.proofs.Ring.{filled-read}
 use Rattle.cutter_check.proofs.rows_filled.Statement.{statement}
 use Rattle.cutter_check.proofs.rows_filled.Tie as tie
 
 abbrev Inv-loop : tie.InvT-loop
-Inv-loop grid ok₀ x₀ ok x = (x ≤ CW) × (ok ≡ allBelow x (λ x. filledAt grid x 0 && filledAt grid x (CH - 1)))
+Inv-loop grid ok₀ x₀ ok x = (x ≤ CW) × (ok ≡ allBelow x (λ x. claimedAt grid (place x 0) && claimedAt grid (place x (CH - 1))))
 
 abbrev μ-loop : tie.MeasureT-loop
 μ-loop grid ok₀ x₀ ok x = CW - x
@@ -49,7 +49,7 @@ loop-again c =
     let h = c .before .before .loop-test .taken in
     let a = filled-read g (k .loop .x) (k .loop .x) 0 (k .before .pre) (omega arith) (omega arith) (omega arith) in
     let b = filled-read g (1984 + k .loop .x) (k .loop .x) 31 (k .before .pre) (omega arith) (omega arith) (omega arith) in
-    (omega arith, below-turn (λ x. filledAt g x 0 && filledAt g x (CH - 1)) (k .loop .x) (ap₂ _&&_ a b) (k .loop .inv .1))
+    (omega arith, below-turn (λ x. claimedAt g (place x 0) && claimedAt g (place x (CH - 1))) (k .loop .x) (ap₂ _&&_ a b) (k .loop .inv .1))
 
 returns : tie.Need-returns Inv-loop μ-loop
 unfolding rowsFilled

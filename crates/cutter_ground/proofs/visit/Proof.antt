@@ -8,7 +8,7 @@ use borrow.Author.Needs.{needs}
 use Rattle.laws.proofs.Lists.{getD-default}
 use Rattle.laws.proofs.Counts.{tally-lose}
 use Rattle.cutter_ground.proofs.Visits.{holds-in}
-use Rattle.cutter_ground.specs.Visit.{SEEN}
+use Rattle.cutter_ground.specs.CodeVisit.{SEEN}
 use Rattle.cutter_ground.proofs.visit.Statement.{statement}
 use Rattle.cutter_ground.proofs.visit.Tie as tie
 

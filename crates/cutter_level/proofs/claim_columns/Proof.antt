@@ -6,7 +6,7 @@ use lib.ListN.{length, length-set}
 use Rattle.laws.specs.Lists.{across}
 use Rattle.laws.proofs.Folds.{across-more, across-end}
 use Rattle.cutter_ground.specs.Cells.{CH, CN}
-use Rattle.cutter_level.specs.Ring.{claimColumn}
+use Rattle.cutter_level.specs.CodeRing.{claimColumn}
 use Rattle.cutter_level.proofs.claim_columns.Statement.{statement}
 use Rattle.cutter_level.proofs.claim_columns.Tie as tie
 

@@ -6,7 +6,7 @@ use lib.ListN.{length, length-set}
 use Rattle.laws.specs.Lists.{across}
 use Rattle.laws.proofs.Folds.{across-more, across-end}
 use Rattle.cutter_ground.specs.Cells.{CW, CN}
-use Rattle.cutter_level.specs.Ring.{claimRow}
+use Rattle.cutter_level.specs.CodeRing.{claimRow}
 use Rattle.cutter_level.proofs.claim_rows.Statement.{statement}
 use Rattle.cutter_level.proofs.claim_rows.Tie as tie
 

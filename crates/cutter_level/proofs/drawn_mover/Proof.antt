@@ -1,7 +1,7 @@
 use native.Mathlib.Omega.{arith}
 use borrow.Author.Needs.{needs}
 use denote.Ref.{now}
-use Rattle.cutter_rules.specs.Level.{drawn}
+use Rattle.cutter_rules.specs.Level.{drawnMover}
 use Rattle.cutter_state.proofs.Signs.{kept}
 use Rattle.cutter_rules.proofs.Draws.{place-fits}
 use Rattle.cutter_level.proofs.drawn_mover.Statement.{statement}
@@ -36,7 +36,7 @@ add-t8 c =
     record { fits = omega (arith, c .draw-at4 .ensures, place-fits (now (s .args .draws)) (s .args .i) (s .pre .fit)) }
 
 returns : tie.Need-returns
-unfolding drawn
+unfolding drawnMover
 returns c =
     simp (kept (c .before .before .velocity-of2 .result) (c .before .before .velocity-of2 .ok), kept (c .before .before .before .before .velocity-of .result) (c .before .before .before .before .velocity-of .ok))
     (simp (

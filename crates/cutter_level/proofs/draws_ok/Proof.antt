@@ -7,12 +7,12 @@ use borrow.Author.Tests.{eq-eqb, ne-eqb}
 use lib.ListN.{length}
 use denote.Ref.{now}
 use Rattle.laws.specs.Lists.{allBelow}
-use Rattle.cutter_rules.specs.Level.{DRAWS, inRange, drawsOk}
+use Rattle.cutter_rules.specs.Level.{DRAWS-EACH, inRange, drawsOk}
 use Rattle.cutter_level.proofs.draws_ok.Statement.{statement}
 use Rattle.cutter_level.proofs.draws_ok.Tie as tie
 
 abbrev Inv-loop : tie.InvT-loop
-Inv-loop draws n ok₀ i₀ ok i = (i ≤ n) × (length draws ≡ DRAWS * n) × (ok ≡ allBelow i (inRange draws))
+Inv-loop draws n ok₀ i₀ ok i = (i ≤ n) × (length draws ≡ DRAWS-EACH * n) × (ok ≡ allBelow i (inRange draws))
 
 abbrev μ-loop : tie.MeasureT-loop
 μ-loop draws n ok₀ i₀ ok i = n - i
@@ -24,7 +24,7 @@ returns : tie.Need-returns Inv-loop μ-loop
 unfolding drawsOk
 returns c =
     let a = c .before .before .args in
-    simp (ne-eqb (length (now (a .draws))) (DRAWS * a .n) (λ e. omega (arith, c .if1 .taken)))
+    simp (ne-eqb (length (now (a .draws))) (DRAWS-EACH * a .n) (λ e. omega (arith, c .if1 .taken)))
 
 loop-holds : tie.Need-loop-holds Inv-loop μ-loop
 loop-holds c = (omega arith, omega (arith, c .if1 .left), refl)

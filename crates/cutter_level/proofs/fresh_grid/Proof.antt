@@ -3,7 +3,7 @@ use borrow.Author.Needs.{needs}
 use lib.ListN.{length}
 use Rattle.laws.specs.Lists.{across}
 use Rattle.cutter_ground.specs.Cells.{CH}
-use Rattle.cutter_level.specs.Ring.{claimColumn}
+use Rattle.cutter_level.specs.CodeRing.{claimColumn}
 use Rattle.cutter_level.proofs.Ring.{ring-claimed, rows-length}
 use Rattle.cutter_level.proofs.fresh_grid.Statement.{statement}
 use Rattle.cutter_level.proofs.fresh_grid.Tie as tie

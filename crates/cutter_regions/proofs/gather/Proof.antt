@@ -6,7 +6,7 @@ use lib.ListN.{getD}
 use denote.Ref.{now}
 use Rattle.laws.proofs.Lists.{getD-default}
 use Rattle.cutter_ground.specs.Cells.{CN}
-use Rattle.cutter_regions.specs.Gathering.{Gathered}
+use Rattle.cutter_regions.specs.CodeGathering.{Gathered}
 use Rattle.cutter_regions.proofs.Gathering.{gathered-start, gathered-pass, gathered-hit, gathered-room}
 use Rattle.cutter_regions.proofs.gather.Statement.{statement}
 use Rattle.cutter_regions.proofs.gather.Tie as tie

@@ -4,7 +4,7 @@ use Rattle.frame.proofs.Draw.{framed-pack}
 use Rattle.cutter_state.specs.State.{creatures}
 use Rattle.cutter_state.specs.WellFormed.{moverOk}
 use Rattle.cutter_state.proofs.Ring.{holds-inside}
-use Rattle.cutter_render.specs.Draw.{onPanel}
+use Rattle.cutter_render.specs.CodeDraw.{onPanel}
 use Rattle.cutter_render.proofs.Marks.{holds-panel}
 use Rattle.cutter_render.proofs.Layers.{whole}
 use borrow.Author.Needs.{needs}

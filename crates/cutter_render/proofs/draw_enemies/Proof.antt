@@ -8,7 +8,7 @@ use lib.ListN.{take}
 use lib.IntN.{pos}
 use Rattle.laws.specs.Lists.{any}
 use Rattle.laws.proofs.Lists.{mapped}
-use Rattle.frame.specs.Draw.{inked}
+use Rattle.frame.specs.CodeDraw.{inked}
 use Rattle.frame.proofs.Draw.{length-pack, length-framed, framed-pack}
 use Rattle.cutter_picture.specs.Picture.{moverLit}
 use Rattle.cutter_render.proofs.Marks.{on-panel}

@@ -7,7 +7,7 @@ use lib.ListN.{length}
 use Rattle.laws.proofs.Table.{table-none, table-whole}
 use Rattle.frame.specs.Frame.{pack, pageByte}
 use Rattle.cutter_picture.specs.Picture.{groundLit}
-use Rattle.cutter_render.specs.Draw.{grounded}
+use Rattle.cutter_render.specs.CodeDraw.{grounded}
 use Rattle.cutter_render.proofs.draw_ground.Statement.{statement}
 use Rattle.cutter_render.proofs.draw_ground.Tie as tie
 

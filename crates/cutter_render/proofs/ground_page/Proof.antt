@@ -5,7 +5,7 @@ use Prim.Native.Nat.{ℕ, _+_, _-_, _*_, _≤_}
 use native.Mathlib.Omega.{arith}
 use denote.Ref.{now}
 use lib.ListN.{length, length-set}
-use Rattle.cutter_render.specs.Draw.{grounded}
+use Rattle.cutter_render.specs.CodeDraw.{grounded}
 use Rattle.cutter_render.proofs.Ground.{both-bytes}
 use Rattle.cutter_render.proofs.ground_page.Statement.{statement}
 use Rattle.cutter_render.proofs.ground_page.Tie as tie

@@ -8,7 +8,7 @@ use Rattle.laws.proofs.Lists.{getD-default}
 use Rattle.cutter_ground.specs.Cells.{CN, CB-FILLED}
 use Rattle.cutter_joined.proofs.Joined.{black-in}
 use Rattle.cutter_sweeps.specs.Sweeps.{lower}
-use Rattle.cutter_sweeps.specs.Table.{Numbers}
+use Rattle.cutter_sweeps.specs.CodeTable.{Numbers}
 use Rattle.cutter_sweeps.proofs.Low.{lower-in, lower-out}
 use borrow.Author.Needs.{needs}
 use Rattle.cutter_sweeps.proofs.lower_by.Statement.{statement}

@@ -3,13 +3,13 @@ use mathlib.Core.Path.{_≡_, sym, _∙_, ap, subst}
 use borrow.Author.Needs.{needs}
 use Rattle.cutter_state.specs.declared.Cutter.{Cutter}
 use Rattle.cutter_state.specs.WellFormed.{WellFormed}
-use Rattle.cutter_pass.specs.declared.Played.{Played}
 use Rattle.cutter_pass.specs.Pass.{played, afterKeys}
 use Rattle.cutter_pass.proofs.Keys.{key-kept}
 use Rattle.cutter_pass.proofs.Kept.{moved-formed}
 use Rattle.cutter_pass.proofs.Answers.{after-quit, after-ticks}
 use Rattle.cutter_turn.proofs.after_keys.Statement.{statement}
 use Rattle.cutter_turn.proofs.after_keys.Tie as tie
+use Rattle.controls.specs.Keys.{Played}
 
 play-requires : tie.Need-play-requires
 play-requires c κs = search needs
@@ -25,7 +25,7 @@ returns c =
     let q = c .before .before in
     let p = q .before in
     let a = p .before .before .args in
-    let all : _≡_ {A = Played} (record { quit = p .play .result .quit; game = q .press .result }) (played (a .c) (a .keys .now)) = ap (λ (g : Cutter). record { quit = p .play .result .quit; game = g }) (q .press .ensures) ∙ p .play .ensures (a .c) in
+    let all : _≡_ {A = Played Cutter} (record { quit = p .play .result .quit; game = q .press .result }) (played (a .c) (a .keys .now)) = ap (λ (g : Cutter). record { quit = p .play .result .quit; game = g }) (q .press .ensures) ∙ p .play .ensures (a .c) in
     c .turn .ensures ∙ after-quit (a .first) (a .second) (a .time) _ (c .before .if1 .taken) ∙ ap (afterKeys (a .first) (a .second) (a .time)) all
 
 both-ticks-requires : tie.Need-both-ticks-requires
@@ -53,7 +53,7 @@ returns-2 c =
     let q = t .before .before in
     let p = q .before in
     let a = p .before .before .args in
-    let all : _≡_ {A = Played} (record { quit = p .play .result .quit; game = q .press .result }) (played (a .c) (a .keys .now)) = ap (λ (g : Cutter). record { quit = p .play .result .quit; game = g }) (q .press .ensures) ∙ p .play .ensures (a .c) in
+    let all : _≡_ {A = Played Cutter} (record { quit = p .play .result .quit; game = q .press .result }) (played (a .c) (a .keys .now)) = ap (λ (g : Cutter). record { quit = p .play .result .quit; game = g }) (q .press .ensures) ∙ p .play .ensures (a .c) in
     c .turn2 .ensures
     ∙ after-ticks (a .first) (a .second) (a .time) _ (t .before .if1 .left) (t .«both-ticks» .ensures) (c .before .before .«step-if» .ensures) (c .before .«enemies-if» .ensures)
     ∙ ap (afterKeys (a .first) (a .second) (a .time)) all

@@ -7,10 +7,11 @@ use lib.ListN.{length, drop-of-length-le}
 use borrow.Author.Tests.{eq-eqb, ne-eqb}
 use Rattle.laws.proofs.Lists.{drop-one}
 use Rattle.cutter_state.specs.declared.Cutter.{Cutter}
-use Rattle.cutter_pass.specs.Pass.{KEY-QUIT, played}
+use Rattle.cutter_pass.specs.Pass.{played}
 use Rattle.cutter_turn.proofs.Keys.{Left, no-key, keys-way, keys-other, keys-quit, keys-end}
 use Rattle.cutter_turn.proofs.play.Statement.{statement}
 use Rattle.cutter_turn.proofs.play.Tie as tie
+use Rattle.controls.specs.Keys.{KEY-QUIT}
 
 abbrev Inv-loop : tie.InvT-loop
 Inv-loop keys last₀ i₀ last i = (i ≤ length keys) × Left keys last i

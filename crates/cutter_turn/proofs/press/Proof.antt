@@ -4,6 +4,7 @@ use borrow.Author.Tests.{ne-eqb}
 use Rattle.cutter_pass.specs.Pass.{keyed}
 use Rattle.cutter_turn.proofs.press.Statement.{statement}
 use Rattle.cutter_turn.proofs.press.Tie as tie
+use Rattle.controls.specs.Keys.{keyedBy}
 
 direction-requires : tie.Need-direction-requires
 direction-requires c κs = search needs
@@ -18,23 +19,23 @@ direction-requires-4 : tie.Need-direction-requires-4
 direction-requires-4 c κs = search needs
 
 returns : tie.Need-returns
-unfolding keyed
+unfolding keyedBy
 returns c = rw (c .before .match .keys1) (c .«direction» .ensures)
 
 returns-2 : tie.Need-returns-2
-unfolding keyed
+unfolding keyedBy
 returns-2 c = rw (c .before .match .keys2) (c .«direction2» .ensures)
 
 returns-3 : tie.Need-returns-3
-unfolding keyed
+unfolding keyedBy
 returns-3 c = rw (c .before .match .keys3) (c .«direction3» .ensures)
 
 returns-4 : tie.Need-returns-4
-unfolding keyed
+unfolding keyedBy
 returns-4 c = rw (c .before .match .keys4) (c .«direction4» .ensures)
 
 returns-5 : tie.Need-returns-5
-unfolding keyed
+unfolding keyedBy
 returns-5 c =
     let r = c .match .rest in
     simp (ne-eqb _ _ (r .0 .0 .0 .1), ne-eqb _ _ (r .0 .0 .1), ne-eqb _ _ (r .0 .1), ne-eqb _ _ (r .1))

@@ -5,10 +5,10 @@ use Prim.Native.Nat.{ℕ}
 use borrow.Author.Needs.{needs}
 use borrow.Author.Tests.{lt-ltb, le-ltb}
 use lib.Dec.{ltb}
-use Rattle.cutter_keeps.specs.Kept.{blackIn}
 use Rattle.cutter_pass.specs.Pass.{CLEAR-BELOW, scored}
 use Rattle.cutter_turn.proofs.score.Statement.{statement}
 use Rattle.cutter_turn.proofs.score.Tie as tie
+use Rattle.cutter_state.specs.State.{blackIn}
 
 black-count-requires : tie.Need-black-count-requires
 black-count-requires c κs = search needs

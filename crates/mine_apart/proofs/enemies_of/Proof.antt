@@ -5,7 +5,7 @@ use lib.ListN.{length, take, length-set}
 use borrow.Author.Needs.{needs}
 use Rattle.laws.proofs.Lists.{fill-more, fill-end}
 use Rattle.mine_state.specs.State.{MAX-ENEMIES, blankSlot}
-use Rattle.mine_apart.specs.Apart.{joined}
+use Rattle.mine_apart.specs.CodeApart.{joined}
 use Rattle.mine_apart.proofs.Joined.{length-joined, joined-at}
 use Rattle.mine_apart.proofs.enemies_of.Statement.{statement}
 use Rattle.mine_apart.proofs.enemies_of.Tie as tie

@@ -7,7 +7,7 @@ use lib.ListN.{length, take, drop}
 use Rattle.laws.specs.Lists as L
 use Rattle.laws.proofs.Lists.{taken-end, count-end}
 use Rattle.mine_state.specs.State.{MAX-ENEMIES, standsAt}
-use Rattle.mine_apart.specs.Apart.{joined}
+use Rattle.mine_apart.specs.CodeApart.{joined}
 use Rattle.mine_apart.proofs.Joined.{slot-hit, slot-miss}
 use Rattle.mine_apart.proofs.number_from.Statement.{statement}
 use Rattle.mine_apart.proofs.number_from.Tie as tie

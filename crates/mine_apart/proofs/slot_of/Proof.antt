@@ -4,7 +4,7 @@ use mathlib.Core.Path.{_≡_, subst}
 use Prim.Native.Nat.{ℕ, _≤_, _<_, _-_}
 use native.Mathlib.Omega.{arith}
 use Rattle.laws.proofs.Choice.{below?}
-use Rattle.mine_apart.specs.Apart.{holds}
+use Rattle.mine_apart.specs.CodeApart.{holds}
 use Rattle.mine_apart.proofs.slot_of.Statement.{statement}
 use Rattle.mine_apart.proofs.slot_of.Tie as tie
 

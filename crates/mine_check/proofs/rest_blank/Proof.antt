@@ -7,12 +7,12 @@ use borrow.Author.Tests.{not-true, not-false}
 use Rattle.laws.specs.Lists.{all}
 use Rattle.laws.proofs.Lists.{mapped, mapped-below, drop-one, drop-end, all-more, all-fails, all-end}
 use Rattle.mine_state.specs.State.{MAX-ENEMIES}
-use Rattle.mine_state.specs.WellFormed.{blank}
+use Rattle.mine_state.specs.WellFormed.{isBlank}
 use Rattle.mine_check.proofs.rest_blank.Statement.{statement}
 use Rattle.mine_check.proofs.rest_blank.Tie as tie
 
 abbrev Inv-loop : tie.InvT-loop
-Inv-loop n enemies i₀ i = (i ≤ MAX-ENEMIES) × (all blank (drop i enemies) ≡ all blank (drop n enemies))
+Inv-loop n enemies i₀ i = (i ≤ MAX-ENEMIES) × (all isBlank (drop i enemies) ≡ all isBlank (drop n enemies))
 
 abbrev μ-loop : tie.MeasureT-loop
 μ-loop n enemies i₀ i = MAX-ENEMIES - i
@@ -33,7 +33,7 @@ returns : tie.Need-returns Inv-loop μ-loop
 returns c =
     let k = c .before .before .before .before in
     let l = k .before .args .t1 in
-    all-fails blank l (k .loop .i)
+    all-fails isBlank l (k .loop .i)
     (drop-one l (k .loop .i) _ (search (needs, mapped-below)))
     (k .loop .inv .1)
     (sym (c .before .is-blank .ensures) ∙ not-true _ (c .if1 .taken))
@@ -49,7 +49,7 @@ loop-again c =
     let k = c .before .before .before .before in
     let l = k .before .args .t1 in (
       omega arith,
-      all-more blank l (k .loop .i)
+      all-more isBlank l (k .loop .i)
           (drop-one l (k .loop .i) _ (search (needs, mapped-below)))
           (k .loop .inv .1)
           (sym (c .before .is-blank .ensures) ∙ not-false _ (c .if1 .left)),
@@ -60,7 +60,7 @@ returns-2 c =
     let k = c .before in
     let l = k .before .args .t1 in
     let e : k .loop .i ≡ MAX-ENEMIES = omega arith in
-    all-end blank l MAX-ENEMIES (drop-end l MAX-ENEMIES (search (needs, mapped))) (rw e at (k .loop .inv .1))
+    all-end isBlank l MAX-ENEMIES (drop-end l MAX-ENEMIES (search (needs, mapped))) (rw e at (k .loop .inv .1))
 
 pub rest-blank-spec : {M : Type 1} → statement M
 rest-blank-spec =

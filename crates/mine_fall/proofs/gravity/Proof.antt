@@ -4,7 +4,7 @@ use borrow.Author.Needs.{needs}
 use Rattle.mine_state.specs.declared.Enemy.{Enemy}
 use Rattle.mine_rules.specs.Gravity.{gravityOf}
 use Rattle.mine_apart.proofs.Joined.{joined-of, apart-of}
-use Rattle.mine_fall.specs.Places.{whole}
+use Rattle.mine_fall.specs.CodePlaces.{whole}
 use Rattle.mine_fall.proofs.Parts.{numbers, sound-whole}
 use Rattle.mine_fall.proofs.gravity.Statement.{statement}
 use Rattle.mine_fall.proofs.gravity.Tie as tie

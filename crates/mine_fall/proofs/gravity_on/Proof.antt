@@ -7,14 +7,14 @@ use lib.ListN.{length, getD, set}
 use borrow.Author.Needs.{needs}
 use Rattle.mine_state.specs.declared.Mine.{Mine}
 use Rattle.mine_state.specs.State.{W, H, AREA, MAX-ENEMIES}
-use Rattle.mine_fall.specs.Spots.{spotsFrom}
+use Rattle.mine_fall.specs.CodeSpots.{spotsFrom}
 use Rattle.mine_fall.proofs.Places.{spots-without, length-spots}
 use Rattle.mine_fall.specs.declared.cells.Fell.{Fell}
 use Rattle.mine_fall.specs.declared.cells.Fell.the-variants.{Squashed}
 use Rattle.mine_rules.specs.Gravity.{cellFall, gravityOf, without}
-use Rattle.mine_apart.specs.Apart.{joined, Apart}
-use Rattle.mine_fall.specs.Falls.{happened, lent, Below}
-use Rattle.mine_fall.specs.Places.{whole, left}
+use Rattle.mine_apart.specs.CodeApart.{joined, Apart}
+use Rattle.mine_fall.specs.CodeFalls.{happened, lent, Below}
+use Rattle.mine_fall.specs.CodePlaces.{whole, left}
 use Rattle.mine_fall.proofs.Parts.{nothing, numbers, placed, slots, apart-left, without-one}
 use Rattle.mine_fall.proofs.Loops.{During, rowsLeft, cellsLeft, stands, turn, row-begins, row-ends, row-passed, rows-done, onwards}
 use Rattle.mine_fall.proofs.gravity_on.Statement.{statement}

@@ -5,7 +5,7 @@ use native.Mathlib.Omega.{arith}
 use denote.Ref.{now}
 use Rattle.frame.specs.Frame.{pack, pixel}
 use Rattle.frame.proofs.Draw.{length-pack, length-framed, parts, parts-none, parts-all}
-use Rattle.mine_render.specs.Draw.{stampLit}
+use Rattle.mine_render.specs.CodeDraw.{stampLit}
 use Rattle.mine_render.proofs.Stamp.{column-more}
 use Rattle.mine_render.proofs.blit.Statement.{statement}
 use Rattle.mine_render.proofs.blit.Tie as tie

@@ -4,12 +4,12 @@ use Prim.Native.Nat.{_≤_, _-_}
 use native.Mathlib.Omega.{arith}
 use denote.Ref.{now}
 use lib.ListN.{take}
-use Rattle.frame.specs.Draw.{inked}
+use Rattle.frame.specs.CodeDraw.{inked}
 use borrow.Author.Needs.{needs}
 use Rattle.laws.proofs.Lists.{mapped}
 use Rattle.frame.proofs.Draw.{length-pack, length-framed, framed-pack}
 use Rattle.mine_picture.specs.Picture.{window}
-use Rattle.mine_render.specs.Draw.{enemiesLit}
+use Rattle.mine_render.specs.CodeDraw.{enemiesLit}
 use Rattle.mine_render.proofs.Layers.{enemies-none, enemies-more}
 use Rattle.mine_render.proofs.draw_enemies.Statement.{statement}
 use Rattle.mine_render.proofs.draw_enemies.Tie as tie

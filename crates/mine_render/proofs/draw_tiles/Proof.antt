@@ -7,7 +7,7 @@ use Rattle.frame.specs.Frame.{pack, pixel}
 use Rattle.frame.proofs.Draw.{length-pack, length-framed, framed-pack, parts, parts-none, parts-all}
 use Rattle.mine_picture.specs.Art.{artOf}
 use Rattle.mine_picture.specs.Picture.{window}
-use Rattle.mine_render.specs.Draw.{columnsOf, tileLit}
+use Rattle.mine_render.specs.CodeDraw.{columnsOf, tileLit}
 use Rattle.mine_render.proofs.Stamp.{tileNo, columns-bytes, tile-columns-of}
 use Rattle.mine_render.proofs.Layers.{tile-more}
 use Rattle.mine_render.proofs.draw_tiles.Statement.{statement}

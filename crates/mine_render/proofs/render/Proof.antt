@@ -4,11 +4,11 @@ use mathlib.Core.List.{List}
 use Prim.Native.Nat.{ℕ}
 use native.Mathlib.Omega.{arith}
 use borrow.Author.Needs.{needs}
-use Rattle.frame.specs.Draw.{Framed, blank}
+use Rattle.frame.specs.CodeDraw.{Framed, unlit}
 use Rattle.frame.proofs.Draw.{framed-pack}
 use Rattle.mine_state.specs.State.{W, H}
 use Rattle.mine_picture.specs.Picture.{VIEW-W, VIEW-H, cameraOf}
-use Rattle.mine_render.specs.Draw.{Placed}
+use Rattle.mine_render.specs.CodeDraw.{Placed}
 use Rattle.mine_render.proofs.Layers.{whole}
 use borrow.Author.Needs.{needs}
 use Rattle.mine_render.proofs.render.Statement.{statement}
@@ -29,7 +29,7 @@ camera-requires-2 c κs = search needs
 draw-tiles-requires : tie.Need-draw-tiles-requires
 draw-tiles-requires c κs =
     let k = c .before .before .before in
-    record { cells = search needs; placed = placed _ _ _ _ _ (rw (k .before .before .before .before .clear .ensures) (framed-pack blank)) (k .before .camera .ensures) (k .camera2 .ensures) }
+    record { cells = search needs; placed = placed _ _ _ _ _ (rw (k .before .before .before .before .clear .ensures) (framed-pack unlit)) (k .before .camera .ensures) (k .camera2 .ensures) }
 
 draw-enemies-requires : tie.Need-draw-enemies-requires
 draw-enemies-requires c κs =

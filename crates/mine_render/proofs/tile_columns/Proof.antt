@@ -1,6 +1,6 @@
 -- `mine_picture::tile_columns` meets its contract. Assumes nothing.
 use borrow.Author.Tests.{ne-eqb}
-use Rattle.mine_render.specs.Draw.{columnsIn}
+use Rattle.mine_render.specs.CodeDraw.{columnsIn}
 use Rattle.mine_render.proofs.tile_columns.Statement.{statement}
 use Rattle.mine_render.proofs.tile_columns.Tie as tie
 

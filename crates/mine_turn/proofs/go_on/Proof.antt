@@ -7,9 +7,9 @@ use Rattle.answer.specs.declared.Answer.the-variants.{Quit}
 use Rattle.mine_state.specs.declared.Enemy.{Enemy}
 use Rattle.mine_state.specs.declared.Mine.{Mine}
 use Rattle.mine_state.proofs.Facts.{sound}
-use Rattle.mine_apart.specs.Apart.{joined, standing, Apart}
+use Rattle.mine_apart.specs.CodeApart.{joined, standing, Apart}
 use Rattle.mine_apart.proofs.Joined.{joined-of, apart-of}
-use Rattle.mine_moves.specs.Steps.{playing, deadIf}
+use Rattle.mine_moves.specs.CodeSteps.{playing, deadIf}
 use Rattle.mine_pass.specs.Pass.{still, afterKeys}
 use Rattle.mine_pass.proofs.Answers.{after-quit, after-ticks}
 use Rattle.mine_turn.proofs.Taken.{ready, keyed-state, falling, fallenGame, fallen-state, walkers}

@@ -9,14 +9,15 @@ use borrow.Author.Tests.{eq-eqb, ne-eqb}
 use Rattle.laws.proofs.Lists.{drop-one}
 use Rattle.mine_state.specs.State.{MAX-ENEMIES}
 use Rattle.mine_state.specs.WellFormed.{WellFormed}
-use Rattle.mine_apart.specs.Apart.{joined}
-use Rattle.mine_moves.specs.Steps.{playing}
-use Rattle.mine_pass.specs.Pass.{KEY-QUIT, played}
-use Rattle.mine_turn.specs.Parts.{Ready}
+use Rattle.mine_apart.specs.CodeApart.{joined}
+use Rattle.mine_moves.specs.CodeSteps.{playing}
+use Rattle.mine_pass.specs.Pass.{played}
+use Rattle.mine_turn.specs.CodeParts.{Ready}
 use Rattle.mine_pass.proofs.Keys.{key-kept}
 use Rattle.mine_turn.proofs.Keys.{keys-turn, keys-quit, keys-end}
 use Rattle.mine_turn.proofs.play.Statement.{statement}
 use Rattle.mine_turn.proofs.play.Tie as tie
+use Rattle.controls.specs.Keys.{KEY-QUIT}
 
 abbrev Inv-loop : tie.InvT-loop
 Inv-loop grid₀ xs ys count keys to₀ i₀ grid to i =

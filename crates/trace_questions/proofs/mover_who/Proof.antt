@@ -8,13 +8,13 @@ use lib.ListN.{length, take, drop}
 use borrow.Author.Tests.{lt-ltb}
 use Rattle.laws.proofs.Table.{length-table}
 use Rattle.found.specs.First.{first}
-use Rattle.cutter_ground.specs.Cells.{MAX-ENEMIES, standsAt}
 use Rattle.cutter_ground.specs.declared.Mover.{Mover}
 use Rattle.trace_states.specs.Cutters.{MOVER, moverAt}
 use Rattle.trace_questions.specs.Lists.{noMover, moverOr, moversFrom, moversIn}
 use Rattle.trace_questions.proofs.Parts.{part-is, part-fits, part-more, parts-end}
 use Rattle.trace_questions.proofs.mover_who.Statement.{statement}
 use Rattle.trace_questions.proofs.mover_who.Tie as tie
+use Rattle.cutter_ground.specs.Movers.{MAX-ENEMIES, standsAt}
 
 -- a part of the list, as it is asked
 there : (l : List ℕ) (k : ℕ) → k < length l / MOVER → moverOr (length l / MOVER) l k ≡ moverAt (k * MOVER) l

@@ -6,12 +6,12 @@ use mathlib.Core.Path.{_≡_, refl, _∙_}
 use Prim.Native.Nat.{ℕ, _+_, _-_, _≤_}
 use lib.ListN.{length, take, length-set}
 use Rattle.laws.specs.Lists.{table}
-use Rattle.cutter_ground.specs.Cells.{MAX-ENEMIES}
 use Rattle.cutter_ground.specs.declared.Mover.{Mover}
 use Rattle.trace_words.proofs.Runs.{filled-none, filled-more, filled-whole}
 use Rattle.trace_questions.specs.Lists.{moverOr, moversFrom}
 use Rattle.trace_questions.proofs.movers_from.Statement.{statement}
 use Rattle.trace_questions.proofs.movers_from.Tie as tie
+use Rattle.cutter_ground.specs.Movers.{MAX-ENEMIES}
 
 abbrev Inv-loop : tie.InvT-loop
 Inv-loop list n from enemies₀ i₀ enemies i = (i ≤ MAX-ENEMIES) × (length enemies ≡ MAX-ENEMIES) × (take i enemies ≡ table i (λ (j : ℕ). moverOr n list (from + j)))

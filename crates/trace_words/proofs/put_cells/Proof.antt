@@ -4,7 +4,7 @@ use mathlib.Core.Path.{_≡_}
 use Prim.Native.Nat.{_-_, _≤_}
 use lib.ListN.{length, take}
 use lib.Seq.{take-all}
-use Rattle.trace_words.specs.Lays.{Lays}
+use Rattle.trace_words.specs.CodeLays.{Lays}
 use Rattle.trace_words.proofs.Lays.{lays-none, lays-more, lays-as}
 use Rattle.trace_words.proofs.Runs.{take-more}
 use Rattle.trace_words.proofs.put_cells.Statement.{statement}

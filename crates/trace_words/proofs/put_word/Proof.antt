@@ -4,7 +4,7 @@ use mathlib.Core.Path.{_≡_, ap}
 use Prim.Native.Nat.{ℕ, _-_, _/_, _^_, _≤_}
 use Rattle.laws.specs.Lists.{table}
 use Rattle.trace_words.specs.Numbers.{bytesIn}
-use Rattle.trace_words.specs.Lays.{Lays}
+use Rattle.trace_words.specs.CodeLays.{Lays}
 use Rattle.trace_words.proofs.Bytes.{rest-none, rest-more, byte-more}
 use Rattle.trace_words.proofs.Lays.{lays-none, lays-more, lays-as}
 use Rattle.trace_words.proofs.put_word.Statement.{statement}

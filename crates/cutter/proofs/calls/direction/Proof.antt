@@ -4,10 +4,11 @@ use borrow.Author.Needs.{needs}
 use borrow.Author.Tests.{le-leb, lt-leb}
 use Rattle.refusal.specs.Refusal.{NONE, COMMAND}
 use Rattle.refusal.proofs.Calls.{turned-away-first, by-second}
-use Rattle.cutter_rules.specs.Step.{LEFT, directed}
+use Rattle.cutter_rules.specs.Step.{directed}
 use Rattle.cutter.specs.Calls.{refused, answered, directionCall}
 use Rattle.cutter.proofs.calls.direction.Statement.{statement}
 use Rattle.cutter.proofs.calls.direction.Tie as tie
+use Rattle.controls.specs.Keys.{LEFT}
 
 check-requires : tie.Need-check-requires
 check-requires c κs = search needs

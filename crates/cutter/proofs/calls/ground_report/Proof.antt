@@ -4,11 +4,11 @@ use Prim.Native.Nat.{ℕ, _≤_}
 use borrow.Author.Needs.{needs}
 use Rattle.refusal.proofs.Calls.{turned-away, let-in}
 use Rattle.cutter_state.proofs.Facts.{accepted}
-use Rattle.cutter_keeps.specs.Kept.{INNER}
 use Rattle.cutter_keeps.proofs.Inner.{black-most}
 use Rattle.cutter.specs.Calls.{unreported, reported, reportCall}
 use Rattle.cutter.proofs.calls.ground_report.Statement.{statement}
 use Rattle.cutter.proofs.calls.ground_report.Tie as tie
+use Rattle.cutter_ground.specs.Cells.{INNER}
 
 check-requires : tie.Need-check-requires
 check-requires c κs = search needs

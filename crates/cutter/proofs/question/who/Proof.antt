@@ -56,7 +56,6 @@ use Rattle.found.specs.declared.Found.the-variants.{At, Nobody}
 use Rattle.found.proofs.First.{numbered, numbered-none, numbered-told, back-room, back-here, back-more}
 use Rattle.found.proofs.Found as F
 use Rattle.found.proofs.Found.Laws as F′
-use Rattle.cutter_ground.specs.Cells.{standsAt}
 use Rattle.cutter_ground.specs.declared.Mover.{Mover}
 use Rattle.cutter_ground.proofs.Mover as E
 use Rattle.cutter_ground.proofs.Mover.Laws as E′
@@ -70,6 +69,7 @@ use Rattle.cutter.proofs.question.who as who
 use Rattle.cutter.proofs.question.who.Statement as stated
 use Rattle.cutter.proofs.question.who.Code as code
 use Rattle.cutter.proofs.question.who.Code.Mir as pieces
+use Rattle.cutter_ground.specs.Movers.{standsAt}
 
 abbrev word : Ty
 word = tyInt w64

@@ -8,9 +8,9 @@ use Rattle.laws.proofs.Lists.{mapped-below, taken-one, taken-end}
 use Rattle.found.specs.First.{firstFrom}
 use Rattle.found.specs.declared.Found.the-variants.{At}
 use Rattle.found.proofs.First.{first-here, first-more, first-none}
-use Rattle.cutter_rules.specs.Tick.{isAt, creatureAt}
 use Rattle.cutter_moves.proofs.enemies.enemy_at.Statement.{statement}
 use Rattle.cutter_moves.proofs.enemies.enemy_at.Tie as tie
+use Rattle.cutter_rules.specs.Step.{isAt, creatureAt}
 
 abbrev Inv-loop : tie.InvT-loop
 Inv-loop count at enemies i₀ i =

@@ -7,9 +7,9 @@ use native.Mathlib.Omega.{arith}
 use lib.ListN.{take, drop}
 use Rattle.laws.specs.Lists as L
 use Rattle.laws.proofs.Lists.{mapped-below, taken-one, taken-end, count-hit, count-miss, count-end}
-use Rattle.cutter_rules.specs.Tick.{isAt}
 use Rattle.cutter_moves.proofs.enemies.number_from.Statement.{statement}
 use Rattle.cutter_moves.proofs.enemies.number_from.Tie as tie
+use Rattle.cutter_rules.specs.Step.{isAt}
 
 abbrev Inv-loop : tie.InvT-loop
 Inv-loop from count at enemies n₀ i₀ n i =

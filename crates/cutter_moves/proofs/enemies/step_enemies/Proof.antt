@@ -1,6 +1,6 @@
 use borrow.Author.Needs.{needs}
 use Rattle.cutter_rules.specs.Tick.{enemiesStepped}
-use Rattle.cutter_moves.specs.Moves.{tickOf}
+use Rattle.cutter_moves.specs.CodeMoves.{tickOf}
 use Rattle.cutter_moves.proofs.enemies.step_enemies.Statement.{statement}
 use Rattle.cutter_moves.proofs.enemies.step_enemies.Tie as tie
 

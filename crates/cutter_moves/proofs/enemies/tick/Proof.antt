@@ -5,10 +5,10 @@ use borrow.Author.Needs.{needs}
 use lib.ListN.{length}
 use denote.Ref.{now}
 use Rattle.laws.proofs.Lists.{mapped}
-use Rattle.cutter_ground.specs.Cells.{MAX-ENEMIES}
 use Rattle.cutter_moves.proofs.Roaming.{Going, going-start, going-roams, going-more, going-dead, going-end}
 use Rattle.cutter_moves.proofs.enemies.tick.Statement.{statement}
 use Rattle.cutter_moves.proofs.enemies.tick.Tie as tie
+use Rattle.cutter_ground.specs.Movers.{MAX-ENEMIES}
 
 abbrev Inv-loop : tie.InvT-loop
 Inv-loop grid count out₀ i₀ out i = (count ≤ length out₀) × Going grid out₀ count out i

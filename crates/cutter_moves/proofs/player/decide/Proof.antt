@@ -12,11 +12,10 @@ use Rattle.cutter_ground.specs.declared.Mover.{Mover}
 use Rattle.cutter_state.specs.declared.Cutter.{Cutter}
 use Rattle.cutter_state.specs.WellFormed.{isZero}
 use Rattle.cutter_rules.specs.Ahead.{diagonalOf}
-use Rattle.cutter_rules.specs.Tick.{creatureAt}
-use Rattle.cutter_rules.specs.Step.{noDirection, target}
+use Rattle.cutter_rules.specs.Step.{noDirection, target, creatureAt}
 use Rattle.cutter_rules.proofs.Step.{step-none, step-off, step-killed, step-trailing, step-walking}
 use Rattle.cutter_moves.specs.declared.player.Step.{Step}
-use Rattle.cutter_moves.specs.Steps.{Plays}
+use Rattle.cutter_moves.specs.CodeSteps.{Plays}
 use Rattle.cutter_moves.proofs.Applied.{stayed, died, turned}
 use Rattle.cutter_moves.proofs.player.decide.Statement.{statement}
 use Rattle.cutter_moves.proofs.player.decide.Tie as tie

@@ -2,7 +2,7 @@ use mathlib.Core.Path.{ap, sym, _∙_}
 use borrow.Author.Needs.{needs}
 use mir.Syntax.{w8}
 use mir.Val.{SFits}
-use Rattle.cutter_capture.specs.Steps.{cutOf}
+use Rattle.cutter_capture.specs.CodeSteps.{cutOf}
 use Rattle.cutter_keeps.proofs.Sweeps.{swept-step}
 use Rattle.cutter_moves.proofs.Applied.{stays}
 use Rattle.cutter_moves.proofs.Step.{on-grid, shut-closes, shut-standing, shut-step}

@@ -3,7 +3,7 @@ use borrow.Author.Needs.{needs}
 use mir.Facts.{toZ-ofZ}
 use mir.Syntax.{w8}
 use mir.Val.{SFits}
-use Rattle.cutter_capture.specs.Steps.{cutOf}
+use Rattle.cutter_capture.specs.CodeSteps.{cutOf}
 use Rattle.cutter_moves.proofs.Applied.{stays, left-made}
 use Rattle.cutter_moves.proofs.Step.{on-grid, shut-closes, shut-standing, shut-step}
 use Rattle.cutter_moves.proofs.player.step_player.Statement.{statement}

@@ -6,7 +6,7 @@ use native.Mathlib.Omega.{arith}
 use borrow.Author.Needs.{needs}
 use lib.ListN.{length, drop}
 use Rattle.text.specs.Text.{LINE}
-use Rattle.text.specs.Puts.{Puts}
+use Rattle.text.specs.CodePuts.{Puts}
 use Rattle.lines.specs.Mines.{mineStep, mineLine, mineAfter, mineLines}
 use Rattle.lines.proofs.Runs.{after-end, lines-end}
 use Rattle.lines.proofs.MineBytes.{played-more, told-more, room-more}

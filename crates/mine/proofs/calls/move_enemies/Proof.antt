@@ -2,7 +2,7 @@
 use mathlib.Core.Path.{sym, ap, _∙_}
 use borrow.Author.Needs.{needs}
 use Rattle.refusal.proofs.Calls.{turned-away, let-in}
-use Rattle.mine_rules.specs.Tick.{ticked}
+use Rattle.mine_rules.specs.Tick.{enemiesMoved}
 use Rattle.mine_state.proofs.Facts.{accepted}
 use Rattle.mine.specs.Calls.{refused, answered, tickCall}
 use Rattle.mine.proofs.calls.move_enemies.Statement.{statement}
@@ -13,7 +13,7 @@ check-requires c κs = search needs
 
 returns : tie.Need-returns
 unfolding tickCall
-returns c = let m = c .before .before .args .m in turned-away (refused m) (answered (ticked m)) (c .before .check .ensures) (c .if1 .taken)
+returns c = let m = c .before .before .args .m in turned-away (refused m) (answered (enemiesMoved m)) (c .before .check .ensures) (c .if1 .taken)
 
 move-enemies-requires : tie.Need-move-enemies-requires
 move-enemies-requires c κs = accepted _ (sym (c .before .check .ensures) ∙ c .if1 .left)
@@ -22,7 +22,7 @@ returns-2 : tie.Need-returns-2
 unfolding tickCall
 returns-2 c =
     let m = c .before .before .before .args .m in
-    let-in (refused m) (answered (ticked m)) (c .before .before .check .ensures) (ap answered (c .«move-enemies» .ensures)) (c .before .if1 .left)
+    let-in (refused m) (answered (enemiesMoved m)) (c .before .before .check .ensures) (ap answered (c .«move-enemies» .ensures)) (c .before .if1 .left)
 
 pub move-enemies-spec : {M : Type 1} → statement M
 move-enemies-spec = tie.close (tie.spec check-requires returns move-enemies-requires returns-2)

@@ -5,11 +5,11 @@ use borrow.Author.Tests.{le-leb, lt-leb}
 use Rattle.refusal.specs.Refusal.{NONE, COMMAND}
 use Rattle.refusal.proofs.Calls.{turned-away-first, by-second}
 use Rattle.mine_state.proofs.Facts.{accepted}
-use Rattle.mine_rules.specs.Ways.{LEFT}
 use Rattle.mine_rules.specs.Move.{moved}
 use Rattle.mine.specs.Calls.{refused, answered, moveCall}
 use Rattle.mine.proofs.calls.step_player.Statement.{statement}
 use Rattle.mine.proofs.calls.step_player.Tie as tie
+use Rattle.controls.specs.Keys.{LEFT}
 
 check-requires : tie.Need-check-requires
 check-requires c κs = search needs

@@ -3,7 +3,7 @@ use native.Mathlib.Omega.{arith}
 use borrow.Author.Needs.{needs}
 use borrow.Author.Tests.{eq-eqb, ne-eqb, lt-leb, le-leb, not-true, not-false}
 use Rattle.mine_rules.specs.Gravity.{cellFall, overOther, rested}
-use Rattle.mine_fall.specs.Falls.{lent}
+use Rattle.mine_fall.specs.CodeFalls.{lent}
 use Rattle.mine_fall.proofs.Lent.{cell-rests}
 use Rattle.mine_fall.proofs.cells.cell_fall.Statement.{statement}
 use Rattle.mine_fall.proofs.cells.cell_fall.Tie as tie

@@ -6,7 +6,7 @@ use native.Mathlib.Omega.{arith}
 use borrow.Author.Needs.{needs}
 use borrow.Author.Tests.{not-true}
 use Rattle.mine_state.specs.State.{W}
-use Rattle.mine_fall.specs.Falls.{Quietly}
+use Rattle.mine_fall.specs.CodeFalls.{Quietly}
 use Rattle.mine_fall.proofs.Lent.{quiet-more}
 use Rattle.mine_fall.proofs.cells.quiet.Statement.{statement}
 use Rattle.mine_fall.proofs.cells.quiet.Tie as tie

@@ -7,9 +7,9 @@ use lib.Dec.{ltb}
 use borrow.Author.Needs.{needs}
 use borrow.Author.Tests.{lt-ltb, le-ltb}
 use Rattle.mine_state.specs.declared.Mine.{Mine}
-use Rattle.mine_fall.specs.Spots.{Stand}
+use Rattle.mine_fall.specs.CodeSpots.{Stand}
 use Rattle.mine_rules.specs.Gravity.{openSide, rolled}
-use Rattle.mine_fall.specs.Falls.{lent}
+use Rattle.mine_fall.specs.CodeFalls.{lent}
 use Rattle.mine_fall.proofs.Lent.{is-open, open-inside}
 use Rattle.mine_fall.proofs.cells.roll.Statement.{statement}
 use Rattle.mine_fall.proofs.cells.roll.Tie as tie

@@ -9,7 +9,7 @@ use Rattle.found.specs.First.{firstFrom}
 use Rattle.found.specs.declared.Found.the-variants.{At}
 use Rattle.found.proofs.First.{first-here, first-more, first-none}
 use Rattle.mine_state.specs.State.{MAX-ENEMIES}
-use Rattle.mine_fall.specs.Spots.{isSpot, firstSpot}
+use Rattle.mine_fall.specs.CodeSpots.{isSpot, firstSpot}
 use Rattle.mine_fall.proofs.spots.enemy_at.Statement.{statement}
 use Rattle.mine_fall.proofs.spots.enemy_at.Tie as tie
 

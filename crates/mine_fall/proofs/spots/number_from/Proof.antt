@@ -8,7 +8,7 @@ use lib.ListN.{drop, drop-of-length-le}
 use Rattle.laws.specs.Lists.{count}
 use Rattle.laws.proofs.Lists.{drop-one, count-hit, count-miss, count-end}
 use Rattle.mine_state.specs.State.{MAX-ENEMIES}
-use Rattle.mine_fall.specs.Spots.{isSpot}
+use Rattle.mine_fall.specs.CodeSpots.{isSpot}
 use Rattle.mine_fall.proofs.spots.number_from.Statement.{statement}
 use Rattle.mine_fall.proofs.spots.number_from.Tie as tie
 

@@ -6,9 +6,9 @@ use lib.ListN.{length, take, length-set}
 use borrow.Author.Needs.{needs}
 use Rattle.laws.proofs.Lists.{fill-more, fill-end}
 use Rattle.mine_state.specs.State.{MAX-ENEMIES}
-use Rattle.mine_fall.specs.Spots.{spotsFrom}
-use Rattle.mine_apart.specs.Apart.{joined, Apart}
-use Rattle.mine_fall.specs.Places.{Placed}
+use Rattle.mine_fall.specs.CodeSpots.{spotsFrom}
+use Rattle.mine_apart.specs.CodeApart.{joined, Apart}
+use Rattle.mine_fall.specs.CodePlaces.{Placed}
 use Rattle.mine_fall.proofs.Parts.{spot-at, spots-long}
 use Rattle.mine_fall.proofs.spots.spots_of.Statement.{statement}
 use Rattle.mine_fall.proofs.spots.spots_of.Tie as tie

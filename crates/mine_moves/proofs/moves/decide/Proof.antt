@@ -1,6 +1,6 @@
 use mathlib.Core.Path.{sym, _∙_, ap}
 use borrow.Author.Needs.{needs}
-use Rattle.mine_rules.specs.Ways.{OnGrid, nextCell}
+use Rattle.mine_rules.specs.Ways.{nextCell}
 use Rattle.mine_rules.specs.Move.{moved}
 use Rattle.mine_rules.proofs.Next.{next-inside}
 use Rattle.mine_moves.specs.declared.moves.Move.{Move}
@@ -13,6 +13,7 @@ use Rattle.mine_moves.proofs.moves.meet.Reads as meet-reads
 use Rattle.mine_moves.proofs.ways.next_cell.Reads as next-cell-reads
 use Rattle.mine_apart.proofs.slot_at.Reads as slot-at-reads
 use Rattle.mine_apart.proofs.enemy_at.Reads as enemy-at-reads
+use Rattle.mine_rules.specs.CodeWays.{OnGrid}
 
 -- what is known once the cell ahead is on the grid
 abbrev Ahead : Type 0

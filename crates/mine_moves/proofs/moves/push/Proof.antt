@@ -2,7 +2,6 @@ use mathlib.Core.Path.{sym, _∙_}
 use native.Mathlib.Omega.{arith}
 use borrow.Author.Needs.{needs}
 use borrow.Author.Tests.{not-true, not-false}
-use Rattle.mine_rules.specs.Ways.{OnGrid}
 use Rattle.mine_rules.specs.Move.{sideways, pushed}
 use Rattle.mine_rules.proofs.Next.{next-inside}
 use Rattle.mine_moves.proofs.Applied.{stayed, shoved, freed}
@@ -13,6 +12,7 @@ use Rattle.mine_moves.proofs.moves.push.Lts as lts
 use Rattle.mine_moves.proofs.moves.go.Reads as go-reads
 use Rattle.mine_moves.proofs.ways.next_cell.Reads as next-cell-reads
 use Rattle.mine_apart.proofs.free.Reads as free-reads
+use Rattle.mine_rules.specs.CodeWays.{OnGrid}
 
 -- what is known once the cell behind the boulder was asked for
 abbrev Asked : Type 0

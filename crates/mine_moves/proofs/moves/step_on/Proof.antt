@@ -1,7 +1,7 @@
 use mathlib.Core.Path.{refl, sym}
 use borrow.Author.Needs.{needs}
-use Rattle.mine_apart.specs.Apart.{joined}
-use Rattle.mine_moves.specs.Steps.{playing}
+use Rattle.mine_apart.specs.CodeApart.{joined}
+use Rattle.mine_moves.specs.CodeSteps.{playing}
 use Rattle.mine_moves.proofs.moves.step_on.Statement.{statement}
 use Rattle.mine_moves.proofs.moves.step_on.Tie as tie
 

@@ -6,9 +6,9 @@ use Rattle.mine_state.specs.declared.Enemy.{Enemy}
 use Rattle.mine_state.proofs.Facts.{sound}
 use Rattle.mine_rules.specs.Move.{moved}
 use Rattle.mine_rules.proofs.Next.{home}
-use Rattle.mine_apart.specs.Apart.{dirOf}
+use Rattle.mine_apart.specs.CodeApart.{dirOf}
 use Rattle.mine_apart.proofs.Joined.{joined-of, apart-of}
-use Rattle.mine_moves.specs.Steps.{playing}
+use Rattle.mine_moves.specs.CodeSteps.{playing}
 use Rattle.mine_moves.proofs.moves.step_player.Statement.{statement}
 use Rattle.mine_moves.proofs.moves.step_player.Tie as tie
 

@@ -8,7 +8,7 @@ use Rattle.mine_state.specs.declared.Mine.{Mine}
 use Rattle.mine_state.specs.State.{MAX-ENEMIES}
 use Rattle.mine_state.proofs.Creatures.{map-dir}
 use Rattle.mine_rules.specs.Tick.{turns, chosen}
-use Rattle.mine_apart.specs.Apart.{joined}
+use Rattle.mine_apart.specs.CodeApart.{joined}
 use Rattle.mine_moves.proofs.Turns.{chosen-goes, chosen-more, chosen-end, turn-fits}
 use Rattle.mine_moves.proofs.ticks.choose.Statement.{statement}
 use Rattle.mine_moves.proofs.ticks.choose.Tie as tie

@@ -1,10 +1,10 @@
 use mathlib.Core.Path.{sym, _∙_, ap}
 use borrow.Author.Needs.{needs}
 use Rattle.mine_state.proofs.Facts.{sound}
-use Rattle.mine_rules.specs.Tick.{ticked}
-use Rattle.mine_apart.specs.Apart.{standing}
+use Rattle.mine_rules.specs.Tick.{enemiesMoved}
+use Rattle.mine_apart.specs.CodeApart.{standing}
 use Rattle.mine_apart.proofs.Joined.{joined-of, apart-of}
-use Rattle.mine_moves.specs.Steps.{deadIf}
+use Rattle.mine_moves.specs.CodeSteps.{deadIf}
 use Rattle.mine_moves.proofs.ticks.move_enemies.Statement.{statement}
 use Rattle.mine_moves.proofs.ticks.move_enemies.Tie as tie
 
@@ -40,7 +40,7 @@ returns c =
     let q = joined-of (m .enemies) (d .before .before .xs-of .ensures) (d .before .ys-of .ensures) (d .dirs-of .ensures) in
     ap (λ l. deadIf (t .tick-on .result) (standing m (m .grid) l (m .count) (m .px) (m .py))) (e .enemies-of .ensures)
     ∙ sym (t .tick-on .ensures .does m)
-    ∙ ap (λ l. ticked (standing m (m .grid) l (m .count) (m .px) (m .py))) q
+    ∙ ap (λ l. enemiesMoved (standing m (m .grid) l (m .count) (m .px) (m .py))) q
 
 pub move-enemies-spec : {M : Type 1} → statement M
 move-enemies-spec =

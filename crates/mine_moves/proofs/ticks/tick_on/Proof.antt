@@ -4,8 +4,8 @@ use native.Mathlib.Omega.{arith}
 use borrow.Author.Needs.{needs}
 use Rattle.mine_state.specs.declared.Mine.{Mine}
 use Rattle.mine_rules.specs.declared.Step.{Step}
-use Rattle.mine_rules.specs.Tick.{turns, chosen, ticked}
-use Rattle.mine_apart.specs.Apart.{joined, standing}
+use Rattle.mine_rules.specs.Tick.{turns, chosen, enemiesMoved}
+use Rattle.mine_apart.specs.CodeApart.{joined, standing}
 use Rattle.mine_moves.proofs.Turns.{Between, begins, ends, here, state, here-on-map, stays, walks, catches}
 use Rattle.mine_moves.proofs.ticks.tick_on.Statement.{statement}
 use Rattle.mine_moves.proofs.ticks.tick_on.Tie as tie
@@ -15,7 +15,7 @@ use Rattle.mine_moves.proofs.ticks.choose.Reads as choose-reads
 
 abbrev Inv-loop : tie.InvT-loop
 Inv-loop grid xs₀ ys₀ dirs₀ count px py caught₀ i₀ xs ys dirs caught i =
-    (i ≤ count) × Between grid count px py (λ m. ticked (standing m grid (joined xs₀ ys₀ dirs₀) count px py)) xs ys dirs caught i
+    (i ≤ count) × Between grid count px py (λ m. enemiesMoved (standing m grid (joined xs₀ ys₀ dirs₀) count px py)) xs ys dirs caught i
 
 abbrev μ-loop : tie.MeasureT-loop
 μ-loop grid xs₀ ys₀ dirs₀ count px py caught₀ i₀ xs ys dirs caught i = count - i

@@ -1,7 +1,6 @@
 use mathlib.Core.Path.{sym, _∙_}
 use borrow.Author.Needs.{needs}
 use Rattle.mine_state.proofs.Creatures.{map-inside}
-use Rattle.mine_rules.specs.Ways.{OnGrid}
 use Rattle.mine_rules.specs.Tick.{wayOf}
 use Rattle.mine_rules.proofs.Next.{next-inside}
 use Rattle.mine_moves.proofs.Turns.{goes-blocked, goes-met, goes-open}
@@ -13,6 +12,7 @@ use Rattle.mine_moves.proofs.ways.next_cell.Reads as next-cell-reads
 use Rattle.mine_state.proofs.at.Reads as at-reads
 use Rattle.mine_apart.proofs.slot_at.Reads as slot-at-reads
 use Rattle.mine_apart.proofs.enemy_at.Reads as enemy-at-reads
+use Rattle.mine_rules.specs.CodeWays.{OnGrid}
 
 -- what is known once the cell ahead is on the grid
 abbrev Ahead : Type 0

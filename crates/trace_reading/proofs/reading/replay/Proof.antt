@@ -6,7 +6,7 @@ use Prim.Native.Nat.{ℕ}
 use borrow.Author.Tests.{ltb-true}
 use lib.ListN.{length-replicate}
 use Rattle.laws.proofs.Choice.{and-right}
-use Rattle.trace_reading.specs.Buffers.{BODY, MOST, Buffers}
+use Rattle.trace_reading.specs.CodeBuffers.{BODY, MOST, Buffers}
 use Rattle.trace_reading.proofs.reading.replay.Statement.{statement}
 use Rattle.trace_reading.proofs.reading.replay.Tie as tie
 

@@ -7,11 +7,11 @@ use Prim.Native.Nat.{ℕ, _+_, _-_, _*_, _≤_}
 use lib.ListN.{length, take, length-set}
 use Rattle.laws.specs.Lists.{table}
 use Rattle.trace_words.proofs.Runs.{filled-none, filled-more, filled-whole}
-use Rattle.cutter_ground.specs.Cells.{MAX-ENEMIES}
 use Rattle.cutter_ground.specs.declared.Mover.{Mover}
 use Rattle.trace_states.specs.Cutters.{MOVER, moverAt, moversAt}
 use Rattle.trace_states.proofs.cutters.movers_of.Statement.{statement}
 use Rattle.trace_states.proofs.cutters.movers_of.Tie as tie
+use Rattle.cutter_ground.specs.Movers.{MAX-ENEMIES}
 
 abbrev Inv-loop : tie.InvT-loop
 Inv-loop bytes at enemies₀ i₀ enemies i = (i ≤ MAX-ENEMIES) × (length enemies ≡ MAX-ENEMIES) × (take i enemies ≡ table i (λ (j : ℕ). moverAt (at + j * MOVER) bytes))

@@ -5,14 +5,14 @@ use mathlib.Core.Path.{_≡_}
 use Prim.Native.Nat.{_-_, _*_, _≤_}
 use lib.ListN.{length, take}
 use Rattle.laws.proofs.Lists.{mapped}
-use Rattle.cutter_ground.specs.Cells.{MAX-ENEMIES}
 use Rattle.trace_words.specs.Numbers.{flat}
-use Rattle.trace_words.specs.Lays.{Lays}
+use Rattle.trace_words.specs.CodeLays.{Lays}
 use Rattle.trace_states.specs.Cutters.{MOVER, SLOTS, moverBytes}
 use Rattle.trace_words.proofs.Lays.{lays-none}
 use Rattle.trace_words.proofs.Runs.{slots-more, slots-end}
 use Rattle.trace_states.proofs.cutters.put_movers.Statement.{statement}
 use Rattle.trace_states.proofs.cutters.put_movers.Tie as tie
+use Rattle.cutter_ground.specs.Movers.{MAX-ENEMIES}
 
 abbrev Inv-loop : tie.InvT-loop
 Inv-loop out₀ at enemies i₀ out i = (i ≤ MAX-ENEMIES) × Lays (flat moverBytes (take i enemies)) (i * MOVER) at out₀ out

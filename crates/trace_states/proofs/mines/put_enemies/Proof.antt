@@ -7,7 +7,7 @@ use lib.ListN.{length, take}
 use Rattle.laws.proofs.Lists.{mapped}
 use Rattle.mine_state.specs.State.{MAX-ENEMIES}
 use Rattle.trace_words.specs.Numbers.{flat}
-use Rattle.trace_words.specs.Lays.{Lays}
+use Rattle.trace_words.specs.CodeLays.{Lays}
 use Rattle.trace_states.specs.Mines.{ENEMY, SLOTS, enemyBytes}
 use Rattle.trace_words.proofs.Lays.{lays-none}
 use Rattle.trace_words.proofs.Runs.{slots-more, slots-end}

@@ -9,7 +9,7 @@ use lib.ListN.{length, take}
 use lib.Seq.{take-all}
 use Rattle.laws.specs.Lists.{bit}
 use Rattle.mine_state.specs.State.{AREA}
-use Rattle.trace_words.specs.Lays.{Lays}
+use Rattle.trace_words.specs.CodeLays.{Lays}
 use Rattle.trace_words.proofs.Lays.{lays-none, lays-more, lays-as}
 use Rattle.trace_words.proofs.Runs.{map-more}
 use Rattle.trace_states.proofs.mines.put_falling.Statement.{statement}

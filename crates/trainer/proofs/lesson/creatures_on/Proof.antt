@@ -11,12 +11,12 @@ use lib.Seq.{take-all}
 use denote.Ref.{now}
 use Rattle.laws.specs.Lists.{bit}
 use Rattle.laws.proofs.Lists.{mapped}
-use Rattle.cutter_ground.specs.Cells.{CN, MAX-ENEMIES, cellOf}
-use Rattle.cutter_closing.specs.Closing.{blank}
+use Rattle.cutter_ground.specs.Cells.{CN}
 use Rattle.trainer.proofs.Creatures.{count-slot}
 use Rattle.trainer.specs.Regions.{onNumber}
 use Rattle.trainer.proofs.lesson.creatures_on.Statement.{statement}
 use Rattle.trainer.proofs.lesson.creatures_on.Tie as tie
+use Rattle.cutter_ground.specs.Movers.{MAX-ENEMIES, placeOf, blankSlot}
 
 abbrev Inv-loop : tie.InvT-loop
 Inv-loop nums count number enemies n₀ i₀ n i = (n ≤ i) × (n ≡ onNumber nums number (take i (take count enemies)))
@@ -54,13 +54,13 @@ loop-again c =
     let s = a .before .args in
     let L = now (s .nums) in
     let l : length (s .t2) ≡ MAX-ENEMIES = search (needs, mapped) in
-    let m = getD (s .t2) (a .loop .i) blank in
-    let t = count-slot (λ e. eqb (getD L (cellOf e) CN) (s .number)) (s .t2) (s .count) (a .loop .i) blank (omega (arith, c .before .before .before .before .loop-test)) in
-    let e : c .before .number-at .result ≡ getD L (cellOf m) CN = c .before .number-at .ensures ∙ ap (λ (x : ℕ). getD L x CN) (c .before .before .cell-of .ensures) in
+    let m = getD (s .t2) (a .loop .i) blankSlot in
+    let t = count-slot (λ e. eqb (getD L (placeOf e) CN) (s .number)) (s .t2) (s .count) (a .loop .i) blankSlot (omega (arith, c .before .before .before .before .loop-test)) in
+    let e : c .before .number-at .result ≡ getD L (placeOf m) CN = c .before .number-at .ensures ∙ ap (λ (x : ℕ). getD L x CN) (c .before .before .cell-of .ensures) in
     let test : ℕ → Bool = λ x. ltb (a .loop .i) (s .count) && eqb x (s .number) in
     ⊎-elim
-    (λ w. let b : bit (test (getD L (cellOf m) CN)) ≡ 1 = ap bit (sym (ap test e) ∙ w .0 .taken) in (omega (arith, w .1), w .1 ∙ omega (arith, t, a .loop .inv .1)))
-    (λ w. let b : bit (test (getD L (cellOf m) CN)) ≡ 0 = ap bit (sym (ap test e) ∙ w .0 .left) in (omega (arith, w .1), w .1 ∙ omega (arith, t, a .loop .inv .1)))
+    (λ w. let b : bit (test (getD L (placeOf m) CN)) ≡ 1 = ap bit (sym (ap test e) ∙ w .0 .taken) in (omega (arith, w .1), w .1 ∙ omega (arith, t, a .loop .inv .1)))
+    (λ w. let b : bit (test (getD L (placeOf m) CN)) ≡ 0 = ap bit (sym (ap test e) ∙ w .0 .left) in (omega (arith, w .1), w .1 ∙ omega (arith, t, a .loop .inv .1)))
     (c .if1 .came)
 
 returns : tie.Need-returns Inv-loop μ-loop

@@ -5,12 +5,12 @@ use mathlib.Core.Path.{_≡_}
 use Prim.Native.Nat.{ℕ, _<_, _≤_, _/_, _%_}
 use lib.IntN.{ℤ}
 use lib.ListN.{length, getD, set}
-use Rattle.cutter_ground.specs.Cells.{CW, CH, CN, MAX-ENEMIES, CB-TRAIL}
+use Rattle.cutter_ground.specs.Cells.{CW, CH, CN, CB-TRAIL, place}
 use Rattle.cutter_ground.specs.declared.Mover.{Mover}
 use Rattle.cutter_state.specs.declared.Cutter.{Cutter}
-use Rattle.cutter_state.specs.State.{place}
 use Rattle.cutter_rules.specs.Step.{entered, cutClosed, atBorder, stepped}
 use Rattle.cutter_moves.specs.declared.player.Step.{Step}
+use Rattle.cutter_ground.specs.Movers.{MAX-ENEMIES}
 
 -- a player's part of a state, and its own cell with its code
 abbrev pub playing : List ℕ → ℕ → ℕ → ℤ → ℤ → Bool → Bool → Step

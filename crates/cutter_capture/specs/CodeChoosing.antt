@@ -11,9 +11,9 @@ use Rattle.cutter_ground.specs.Cells.{CN}
 use Rattle.cutter_ground.specs.declared.Mover.{Mover}
 use Rattle.cutter_joined.proofs.Labels.{labels}
 use Rattle.cutter_closing.specs.Counted.{counted, cellsIn}
-use Rattle.cutter_regions.specs.Seeking.{Queued}
+use Rattle.cutter_regions.specs.CodeSeeking.{Queued}
 use Rattle.cutter_closing.specs.Closing.{kept}
-use Rattle.cutter_capture.specs.Steps.{KEPT, Closable}
+use Rattle.cutter_capture.specs.CodeSteps.{KEPT, Closable}
 
 -- where L has a number for each cell, these are the right ones
 abbrev pub Numbered : (g L : List ℕ) → Type 0

@@ -10,20 +10,20 @@ abbrev pub Framed : List ℕ → Type 0
 Framed frame = frame ≡ pack (pixel frame)
 
 -- clearing makes all bits 0
-abbrev pub blank : ℕ → ℕ → Bool
-blank x y = false
+abbrev pub unlit : ℕ → ℕ → Bool
+unlit x y = false
 
 -- a change of each pixel by what is drawn there
-abbrev pub drawn : (Bool → Bool → Bool) → List ℕ → (ℕ → ℕ → Bool) → List ℕ
-drawn op frame on = pack (λ x y. op (pixel frame x y) (on x y))
+abbrev pub changed : (Bool → Bool → Bool) → List ℕ → (ℕ → ℕ → Bool) → List ℕ
+changed op frame on = pack (λ x y. op (pixel frame x y) (on x y))
 
 -- INK sets a bit
 abbrev pub inked : List ℕ → (ℕ → ℕ → Bool) → List ℕ
-inked = drawn _||_
+inked = changed _||_
 
 -- PAPER clears it
 abbrev pub papered : List ℕ → (ℕ → ℕ → Bool) → List ℕ
-papered = drawn (λ b t. b && not t)
+papered = changed (λ b t. b && not t)
 
 abbrev pub inverted : List ℕ → (ℕ → ℕ → Bool) → List ℕ
-inverted = drawn xor
+inverted = changed xor

@@ -7,7 +7,7 @@ use lib.Dec.{eqb}
 use lib.ListN.{length, getD}
 use Rattle.laws.specs.Lists.{any, table}
 use Rattle.bits.specs.Bits.{number, bitAt, artBit}
-use Rattle.frame.specs.Draw.{Framed}
+use Rattle.frame.specs.CodeDraw.{Framed}
 use Rattle.mine_state.specs.declared.Enemy.{Enemy}
 use Rattle.mine_state.specs.State.{W, H, AREA, MAX-ENEMIES, DIRT, WALL, BOULDER, COIN, EXIT, codeIn, standsAt}
 use Rattle.mine_picture.specs.Art.{DIRT-PAT, WALL-PAT, BOULDER-PAT, COIN-PAT, EMPTY-PAT, ENEMY-PAT, exitArt, artOf}

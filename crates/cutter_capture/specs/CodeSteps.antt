@@ -6,13 +6,13 @@ use Prim.Native.Nat.{ℕ, _-_, _≤_, _<_}
 use lib.Dec.{eqb, ltb}
 use lib.ListN.{length, getD, take}
 use Rattle.laws.specs.Lists.{all, count, filter}
-use Rattle.cutter_ground.specs.Cells.{CN, CB-FILLED, MAX-ENEMIES, cellOf}
-use Rattle.cutter_ground.specs.Visit.{SEEN}
+use Rattle.cutter_ground.specs.Cells.{CN, CB-FILLED}
+use Rattle.cutter_ground.specs.CodeVisit.{SEEN}
 use Rattle.cutter_ground.specs.declared.Mover.{Mover}
-use Rattle.cutter_closing.specs.Closing.{slots}
 use Rattle.cutter_closing.specs.declared.Cut.{Cut}
 use Rattle.cutter_capture.specs.declared.Herd.{Herd}
 use Rattle.cutter_capture.specs.declared.Lead.{Lead}
+use Rattle.cutter_ground.specs.Movers.{MAX-ENEMIES, placeOf, slots}
 
 -- what marks a cell of the region to keep
 abbrev pub KEPT : ℕ
@@ -20,7 +20,7 @@ KEPT = 2
 
 -- the creatures are at most 16, each on the grid
 abbrev pub inside : Mover → Bool
-inside m = ltb (cellOf m) CN
+inside m = ltb (placeOf m) CN
 
 pub record Closable (enemies : List Mover) (count : ℕ) : Type 0 where
   pub few : count ≤ MAX-ENEMIES
@@ -28,7 +28,7 @@ pub record Closable (enemies : List Mover) (count : ℕ) : Type 0 where
 
 -- the mark of a creature's cell, and how many have the mark k
 abbrev pub markOf : List ℕ → Mover → ℕ
-markOf N m = getD N (cellOf m) 0
+markOf N m = getD N (placeOf m) 0
 
 abbrev pub having : List ℕ → List Mover → ℕ → ℕ
 having N es k = count (λ m. eqb (markOf N m) k) es

@@ -6,15 +6,16 @@ use Prim.Native.Nat.{ℕ, _-_, _<_, _≤_, _/_, _%_}
 use lib.IntN.{ℤ}
 use lib.ListN.{length, take, drop}
 use Rattle.laws.specs.Lists.{all, any}
-use Rattle.cutter_ground.specs.Cells.{CW, CH, CN, MAX-ENEMIES, cellAt, cellOf}
+use Rattle.cutter_ground.specs.Cells.{CW, CH, CN, cellAt}
 use Rattle.cutter_ground.specs.declared.Mover.{Mover}
-use Rattle.cutter_state.specs.State.{Inside}
 use Rattle.cutter_state.specs.WellFormed.{rowsFilled, columnsFilled, isUnit, moverOk}
 use Rattle.cutter_rules.specs.Ahead.{sideOf, verticalOf, diagonalOf}
-use Rattle.cutter_rules.specs.Tick.{lineAhead, bounced, ticked}
+use Rattle.cutter_rules.specs.Tick.{lineAhead, bounced, moversStepped}
 use Rattle.cutter_moves.specs.declared.enemies.Moved.{Moved}
 use Rattle.cutter_moves.specs.declared.enemies.Roamed.{Roamed}
 use Rattle.cutter_moves.specs.declared.enemies.View.{View}
+use Rattle.cutter_state.specs.CodeState.{Inside}
+use Rattle.cutter_ground.specs.Movers.{MAX-ENEMIES, placeOf}
 
 -- a place on the grid
 pub record OnGrid (x y : ℕ) : Type 0 where
@@ -51,7 +52,7 @@ pub record Ticks (g : List ℕ) (es : List Mover) (n : ℕ) : Type 0 where
 
 -- the diagonal cell ahead of a creature, and the codes of the side, the vertical and the diagonal one
 abbrev pub viewOf : List ℕ → Mover → View
-viewOf g e = record { to = diagonalOf (e .vx) (e .vy) (cellOf e); side = cellAt g (sideOf (e .vx) (cellOf e)); vertical = cellAt g (verticalOf (e .vy) (cellOf e)); diagonal = cellAt g (diagonalOf (e .vx) (e .vy) (cellOf e)) }
+viewOf g e = record { to = diagonalOf (e .vx) (e .vy) (placeOf e); side = cellAt g (sideOf (e .vx) (placeOf e)); vertical = cellAt g (verticalOf (e .vy) (placeOf e)); diagonal = cellAt g (diagonalOf (e .vx) (e .vy) (placeOf e)) }
 
 -- a creature, and what it has ahead
 pub record Bounces (g : List ℕ) (e : Mover) (v : View) : Type 0 where
@@ -68,4 +69,4 @@ roamOf g e = record { met = lineAhead g e; to = cond (lineAhead g e) e (bounced 
 
 -- the tick of the first n creatures, and whether one of them had line ahead
 unfoldable pub tickOf : List ℕ → List Mover → ℕ → Moved
-tickOf g es n = record { enemies = ticked g (take n es) ++ drop n es; dead = any (lineAhead g) (take n es) }
+tickOf g es n = record { enemies = moversStepped g (take n es) ++ drop n es; dead = any (lineAhead g) (take n es) }

@@ -7,7 +7,7 @@ use lib.ListN.{length, getD}
 use Rattle.laws.specs.Lists.{any}
 use Rattle.cutter_ground.specs.Cells.{CN, leftOf, rightOf, upOf, downOf, onBorder}
 use Rattle.cutter_border.specs.declared.Walked.{Walked}
-use Rattle.cutter_border.specs.Walks.{claimed}
+use Rattle.cutter_border.specs.Walks.{claimedCell}
 
 -- c is one of the cells
 abbrev pub among : ℕ → List ℕ → Bool
@@ -15,7 +15,7 @@ among c cells = any (eqb c) cells
 
 -- a claimed cell not yet reached is reached: it stands behind those reached before
 unfoldable pub reach : List ℕ → List ℕ → ℕ → List ℕ
-reach g cells c = cond (claimed g c && not (among c cells)) (cells ++ c ∷ []) cells
+reach g cells c = cond (claimedCell g c && not (among c cells)) (cells ++ c ∷ []) cells
 
 -- the neighbours left, right, up, down
 unfoldable pub reachAround : List ℕ → List ℕ → ℕ → List ℕ

@@ -6,7 +6,7 @@ use Prim.Native.Nat.{ℕ, _+_, _≤_, _<_}
 use lib.ListN.{length, getD}
 use Rattle.laws.specs.Lists.{tally}
 use Rattle.cutter_ground.specs.Cells.{CN}
-use Rattle.cutter_ground.specs.Visit.{SEEN}
+use Rattle.cutter_ground.specs.CodeVisit.{SEEN}
 use Rattle.cutter_joined.specs.Joined.{Black, Joined}
 
 -- s is black, no cell of its region has a mark, and the queue has room from n on for each cell without one

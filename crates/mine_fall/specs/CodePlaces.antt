@@ -7,10 +7,10 @@ use lib.ListN.{length, getD, set}
 use Rattle.mine_state.specs.declared.Mine.{Mine}
 use Rattle.mine_state.specs.declared.Enemy.{Enemy}
 use Rattle.mine_state.specs.State.{W, H, MAX-ENEMIES}
-use Rattle.mine_fall.specs.Spots.{spotsFrom}
-use Rattle.mine_state.specs.WellFormed.{Sound}
-use Rattle.mine_apart.specs.Apart.{joined, Apart}
+use Rattle.mine_fall.specs.CodeSpots.{spotsFrom}
+use Rattle.mine_apart.specs.CodeApart.{joined, Apart}
 use Rattle.mine_fall.specs.declared.Fallen.{Fallen}
+use Rattle.mine_state.specs.CodeState.{Sound}
 
 -- the lent places are on the grid
 pub record Placed (xs ys : List ℕ) : Type 0 where

@@ -7,13 +7,15 @@ use lib.Dec.{eqb}
 use lib.ListN.{length, set}
 use Rattle.mine_state.specs.declared.Mine.{Mine}
 use Rattle.mine_state.specs.declared.Enemy.{Enemy}
-use Rattle.mine_state.specs.State.{AREA, MAX-ENEMIES, EMPTY, place, emptyAt, onMap, allOnMap}
+use Rattle.mine_state.specs.State.{AREA, MAX-ENEMIES, EMPTY, place, emptyAt}
 use Rattle.mine_rules.specs.declared.Step.{Step}
-use Rattle.mine_rules.specs.Ways.{UP, RIGHT, DOWN, OnGrid}
-use Rattle.mine_apart.specs.Apart.{joined, standing, Apart, Peopled, Lent}
+use Rattle.mine_apart.specs.CodeApart.{joined, standing, Apart, Peopled, Lent}
 use Rattle.mine_rules.specs.Move.{moved}
 use Rattle.mine_moves.specs.declared.moves.Move.{Move}
 use Rattle.mine_moves.specs.declared.moves.Player.{Player}
+use Rattle.mine_state.specs.CodeState.{onMap, allOnMap}
+use Rattle.mine_rules.specs.CodeWays.{OnGrid}
+use Rattle.controls.specs.Keys.{UP, RIGHT, DOWN}
 
 -- the player as it is; its own cell stays empty
 abbrev pub staying : Mine → Move

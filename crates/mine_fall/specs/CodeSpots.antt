@@ -9,7 +9,8 @@ use Rattle.found.specs.First.{first, nobody}
 use Rattle.found.specs.declared.Found.{Found}
 use Rattle.mine_state.specs.declared.Mine.{Mine}
 use Rattle.mine_state.specs.declared.Enemy.{Enemy}
-use Rattle.mine_state.specs.State.{W, AREA, MAX-ENEMIES, place, emptyAt, allOnMap}
+use Rattle.mine_state.specs.State.{W, AREA, MAX-ENEMIES, place, emptyAt}
+use Rattle.mine_state.specs.CodeState.{allOnMap}
 
 -- a creature's place, and AREA, which is no place, where there is none
 abbrev pub spotOr : Bool → Enemy → ℕ

@@ -7,12 +7,12 @@ use lib.Dec.{eqb}
 use lib.ListN.{length, take, drop}
 use Rattle.laws.specs.Lists.{all, table}
 use Rattle.frame.specs.Frame.{PAGES, PAGE-LEN, FRAME-LEN, pageByte}
-use Rattle.frame.specs.Draw.{Framed}
-use Rattle.cutter_ground.specs.Cells.{CW, CH, CN, MAX-ENEMIES, cellAt}
+use Rattle.frame.specs.CodeDraw.{Framed}
+use Rattle.cutter_ground.specs.Cells.{CW, CH, CN, cellAt, place, onGrid}
 use Rattle.cutter_ground.specs.declared.Mover.{Mover}
-use Rattle.cutter_state.specs.State.{place, onGrid}
 use Rattle.cutter_state.specs.WellFormed.{MAX-LIVES}
 use Rattle.cutter_picture.specs.Picture.{isInk, groundLit}
+use Rattle.cutter_ground.specs.Movers.{MAX-ENEMIES}
 
 -- the four cells of column cx in page p, two rows of pixels each
 abbrev pub cellsLit : List ℕ → ℕ → ℕ → ℕ → Bool

@@ -5,9 +5,9 @@ use Prim.Native.Nat.{ℕ, _+_, _≤_, _<_}
 use lib.ListN.{length, getD}
 use Rattle.laws.specs.Lists.{tally}
 use Rattle.cutter_ground.specs.Cells.{CN}
-use Rattle.cutter_ground.specs.Visit.{SEEN}
+use Rattle.cutter_ground.specs.CodeVisit.{SEEN}
 use Rattle.cutter_joined.specs.Joined.{Right}
-use Rattle.cutter_regions.specs.Seeking.{Ready, Queued}
+use Rattle.cutter_regions.specs.CodeSeeking.{Ready, Queued}
 
 -- no cell with the number s has a mark, and the queue has room from n on for each cell without one
 pub record Bare (L seen q : List ℕ) (n s : ℕ) : Type 0 where

@@ -7,12 +7,12 @@ use lib.Dec.{eqb}
 use lib.ListN.{length}
 use Rattle.mine_state.specs.State.{MAX-ENEMIES}
 use Rattle.mine_state.specs.WellFormed.{WellFormed}
-use Rattle.mine_rules.specs.Ways.{UP, RIGHT, DOWN, LEFT}
-use Rattle.mine_apart.specs.Apart.{joined, Apart}
+use Rattle.mine_apart.specs.CodeApart.{joined, Apart}
 use Rattle.mine_moves.specs.declared.moves.Player.{Player}
-use Rattle.mine_moves.specs.Steps.{playing}
+use Rattle.mine_moves.specs.CodeSteps.{playing}
 use Rattle.mine_turn.specs.declared.Pressed.{Pressed}
 use Rattle.mine_pass.specs.Pass.{keyed, played}
+use Rattle.controls.specs.Keys.{UP, RIGHT, DOWN, LEFT}
 
 -- the direction of a key, and 4 for none
 abbrev pub dirOf : ℕ → ℕ

@@ -4,12 +4,12 @@ use mathlib.Core.List.{List}
 use mathlib.Core.Path.{_≡_}
 use Prim.Native.Nat.{ℕ, _+_, _*_, _≤_}
 use lib.ListN.{length}
-use Rattle.cutter_ground.specs.Cells.{MAX-ENEMIES}
-use Rattle.cutter_rules.specs.Level.{DRAWS, inRange, drawsOk}
+use Rattle.cutter_rules.specs.Level.{DRAWS-EACH, inRange, drawsOk}
+use Rattle.cutter_ground.specs.Movers.{MAX-ENEMIES}
 
 -- the four draws of a creature are there
 abbrev pub FourAt : List ℕ → ℕ → Type 0
-FourAt draws i = DRAWS * i + DRAWS ≤ length draws
+FourAt draws i = DRAWS-EACH * i + DRAWS-EACH ≤ length draws
 
 -- the draws of the creature i
 pub record DrawsAt (draws : List ℕ) (i : ℕ) : Type 0 where

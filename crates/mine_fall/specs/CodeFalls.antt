@@ -5,12 +5,13 @@ use mathlib.Core.Path.{_≡_}
 use Prim.Native.Nat.{ℕ, _+_, _<_}
 use lib.ListN.{length}
 use Rattle.mine_state.specs.declared.Mine.{Mine}
-use Rattle.mine_state.specs.State.{AREA, MAX-ENEMIES, codeIn, CellOf}
-use Rattle.mine_fall.specs.Spots.{freeSpot, Stand}
+use Rattle.mine_state.specs.State.{AREA, MAX-ENEMIES, codeIn}
+use Rattle.mine_fall.specs.CodeSpots.{freeSpot, Stand}
 use Rattle.mine_state.specs.Change.{withGrid, withMarks, withCoins, killed}
 use Rattle.mine_fall.specs.declared.cells.Fell.{Fell}
 use Rattle.mine_fall.specs.declared.cells.Fell.the-variants.{Quiet, Collected, Crushed, Squashed}
 use Rattle.mine_rules.specs.Gravity.{isObject, without}
+use Rattle.mine_state.specs.CodeState.{CellOf}
 
 -- a cell of a lent grid and its marks
 pub record LentCell (g : List ℕ) (f : List Bool) (x y : ℕ) : Type 0 where

@@ -5,7 +5,8 @@ use mathlib.Core.Path.{_≡_}
 use Prim.Native.Nat.{ℕ, _≤_}
 use lib.Dec.{ltb}
 use lib.ListN.{length}
-use Rattle.cutter_ground.specs.Cells.{CN, MAX-ENEMIES}
+use Rattle.cutter_ground.specs.Cells.{CN}
+use Rattle.cutter_ground.specs.Movers.{MAX-ENEMIES}
 
 -- the largest of m and the codes of a list
 unfoldable pub largestOf : ℕ → List ℕ → ℕ
