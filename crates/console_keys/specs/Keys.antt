@@ -20,7 +20,8 @@ keyIn ((byte, key) ∷ table) b = cond (eqb b byte) key (keyIn table b)
 
 -- a digit moves, q and x quit, n plays another round; 4 is what a terminal sends for the end of input
 abbrev pub PLAIN-KEYS : List (ℕ × ℕ)
-PLAIN-KEYS = (code "5", KEY-UP) ∷ (code "7", KEY-LEFT) ∷ (code "8", KEY-DOWN) ∷ (code "9", KEY-RIGHT) ∷ (code "q", KEY-QUIT) ∷ (code "x", KEY-QUIT) ∷ (4, KEY-QUIT) ∷ (code "n", NEW) ∷ []
+PLAIN-KEYS = (code "5", KEY-UP) ∷ (code "7", KEY-LEFT) ∷ (code "8", KEY-DOWN) ∷ (code "9", KEY-RIGHT) ∷ (code "q", KEY-QUIT) ∷ (code "x", KEY-QUIT) ∷ (4, KEY-QUIT) ∷
+    (code "n", NEW) ∷ []
 
 -- an arrow's sequence ends with A, B, C or D: up, down, right, left
 abbrev pub ARROWS : List (ℕ × ℕ)

@@ -15,7 +15,8 @@ use Rattle.console_turns.specs.Turns.{limitAt, drawsFrom}
 pub limit-positive : (place : ℕ) → 0 < limitAt place
 unfolding limitAt
 limit-positive place =
-    cond-both (λ (n : ℕ). 0 < n) (eqb (place % DRAWS-EACH) 0) _ _ (λ _. omega arith) (λ _. cond-both (λ (n : ℕ). 0 < n) (eqb (place % DRAWS-EACH) 1) _ _ (λ _. omega arith) (λ _. omega arith))
+    cond-both (λ (n : ℕ). 0 < n) (eqb (place % DRAWS-EACH) 0) _ _ (λ _. omega arith)
+    (λ _. cond-both (λ (n : ℕ). 0 < n) (eqb (place % DRAWS-EACH) 1) _ _ (λ _. omega arith) (λ _. omega arith))
 
 pub draws-more : (l : List ℕ) (i : ℕ) {R : List ℕ} → i < length l → take i l ++ drawsFrom i (drop i l) ≡ R
     → take (i + 1) (set l i (getD l i 0 % limitAt i)) ++ drawsFrom (i + 1) (drop (i + 1) (set l i (getD l i 0 % limitAt i))) ≡ R

@@ -53,14 +53,21 @@ module _ (n : ℕ) (bytes : List ℕ) where
   draw-below : (i k m : ℕ) → i < n → k < DRAWS-EACH → limitAt (DRAWS-EACH * i + k) ≡ m → drawAt draws i k < m
   draw-below i k m h l e =
       let z : 0 + (DRAWS-EACH * i + k) ≡ DRAWS-EACH * i + k = omega arith in
-      rw (getD-take (DRAWS-EACH * n) (drawsFrom 0 bytes) (DRAWS-EACH * i + k) 0 (omega arith)) (subst (λ (z : ℕ). getD (drawsFrom 0 bytes) (DRAWS-EACH * i + k) 0 < z) e (rw z at (drawn-below 0 bytes (DRAWS-EACH * i + k))))
+      rw (getD-take (DRAWS-EACH * n) (drawsFrom 0 bytes) (DRAWS-EACH * i + k) 0 (omega arith)) (subst (λ (z : ℕ). getD (drawsFrom 0 bytes) (DRAWS-EACH * i + k) 0 < z) e
+      (rw z at (drawn-below 0 bytes (DRAWS-EACH * i + k))))
 
   in-range : (i : ℕ) → i < n → inRange draws i ≡ true
   unfolding inRange
   in-range i h =
-      simp (lt-ltb _ _ (draw-below i 0 62 h (omega arith) (first i)), lt-ltb _ _ (draw-below i 1 30 h (omega arith) (second i)), lt-ltb _ _ (draw-below i 2 2 h (omega arith) (third i)), lt-ltb _ _ (draw-below i 3 2 h (omega arith) (fourth i)))
+      simp (
+        lt-ltb _ _ (draw-below i 0 62 h (omega arith) (first i)),
+        lt-ltb _ _ (draw-below i 1 30 h (omega arith) (second i)),
+        lt-ltb _ _ (draw-below i 2 2 h (omega arith) (third i)),
+        lt-ltb _ _ (draw-below i 3 2 h (omega arith) (fourth i)),
+      )
 
 pub draws-fit : DrawsFit
 unfolding drawsOk
 draws-fit n bytes h =
-    and-both (eqb (length (draws n bytes)) (DRAWS-EACH * n)) _ (eq-eqb _ _ (length-take-le (DRAWS-EACH * n) (drawsFrom 0 bytes) (omega (arith, length-draws 0 bytes)))) (all-below n (inRange (draws n bytes)) (in-range n bytes))
+    and-both (eqb (length (draws n bytes)) (DRAWS-EACH * n)) _ (eq-eqb _ _ (length-take-le (DRAWS-EACH * n) (drawsFrom 0 bytes) (omega (arith, length-draws 0 bytes))))
+    (all-below n (inRange (draws n bytes)) (in-range n bytes))

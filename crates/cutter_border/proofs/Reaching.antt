@@ -75,7 +75,8 @@ pub mark-more : (seen cells : List ℕ) (at : ℕ) → at < length seen → ((c 
 mark-more seen cells at h m c =
     any-append (eqb c) cells (at ∷ [])
     ∙ ⊎-elim
-    (λ (e : c ≡ at). rw (eq-eqb c at e, or-true) (sym (ap (λ (n : ℕ). not (eqb n 0)) (subst (λ (n : ℕ). getD (set seen at SEEN) n 0 ≡ SEEN) (sym e) (getD-set-same seen at SEEN 0 h)))))
+    (λ (e : c ≡ at). rw (eq-eqb c at e, or-true)
+    (sym (ap (λ (n : ℕ). not (eqb n 0)) (subst (λ (n : ℕ). getD (set seen at SEEN) n 0 ≡ SEEN) (sym e) (getD-set-same seen at SEEN 0 h)))))
     (λ (n : c ≡ at → ⊥). rw (ne-eqb c at n, or-false) (m c ∙ sym (ap (λ (n : ℕ). not (eqb n 0)) (getD-set-other seen at c SEEN 0 n))))
     (same? c at)
 
@@ -84,7 +85,8 @@ pub record Steps (g cells : List ℕ) (seen′ q′ : List ℕ) (t′ : ℕ) : T
   pub list : take t′ q′ ≡ cells
   pub reached : Reached g seen′ q′ t′
 
-visit-reaches : {g seen q : List ℕ} {t at : ℕ} {seen′ q′ : List ℕ} {t′ : ℕ} → Reached g seen q t → Visited g seen q t at CB-FILLED seen′ q′ t′ → Steps g (reach g (take t q) at) seen′ q′ t′
+visit-reaches : {g seen q : List ℕ} {t at : ℕ} {seen′ q′ : List ℕ} {t′ : ℕ} → Reached g seen q t → Visited g seen q t at CB-FILLED seen′ q′ t′
+    → Steps g (reach g (take t q) at) seen′ q′ t′
 visit-reaches {g} {seen} {q} {t} {at} {seen′} {q′} {t′} r (inl p) =
     let room : Room g seen′ q′ t′ CB-FILLED = room-kept (r .room) (inl p) in
     let inn : at < length seen = omega (arith, r .room, holds-in g CB-FILLED at (r .room .kind) (p .holds)) in
@@ -104,7 +106,8 @@ visit-reaches {g} {seen} {q} {t} {at} {seen′} {q′} {t′} r (inr p) =
       reached = record { room = room-kept (r .room) (inr p); marks = λ c. ap (among c) same ∙ r .marks c ∙ sym (ap (λ (l : List ℕ). marked l c) (p .marks)) };
     }
 
-pub around-reaches : {g seen q : List ℕ} {t at : ℕ} {seen′ q′ : List ℕ} {t′ : ℕ} → Reached g seen q t → Around g seen q t at CB-FILLED seen′ q′ t′ → Steps g (reachAround g (take t q) at) seen′ q′ t′
+pub around-reaches : {g seen q : List ℕ} {t at : ℕ} {seen′ q′ : List ℕ} {t′ : ℕ} → Reached g seen q t → Around g seen q t at CB-FILLED seen′ q′ t′
+    → Steps g (reachAround g (take t q) at) seen′ q′ t′
 unfolding reachAround
 around-reaches {g} {seen} {q} {t} {at} r a =
     let one = visit-reaches r (a .first) in

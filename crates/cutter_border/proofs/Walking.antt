@@ -73,7 +73,8 @@ module _ {g : List ℕ} {start : ℕ} {seen q : List ℕ} {head t : ℕ} (w : Wa
         ∙ ap (λ (n : ℕ). walk n g start (take t q) head) (sym left)
         ∙ w .answer
 
-    pub walk-turn : onBorder g (getD q head 0) ≡ false → {seen′ q′ : List ℕ} {t′ : ℕ} → Around g seen q t (getD q head 0) CB-FILLED seen′ q′ t′ → Walking g start seen′ q′ (head + 1) t′
+    pub walk-turn : onBorder g (getD q head 0) ≡ false → {seen′ q′ : List ℕ} {t′ : ℕ} → Around g seen q t (getD q head 0) CB-FILLED seen′ q′ t′
+        → Walking g start seen′ q′ (head + 1) t′
     walk-turn e {seen′} {q′} {t′} a =
         let s = around-reaches (w .reached) a in
         let more = subst (λ (c : ℕ). reachAround g (take t q) (getD q head 0) ≡ reachAround g (take t q) c) (sym here) refl in

@@ -194,10 +194,29 @@ module _ {g L : List ℕ} (R : Right g L) {limit : ℕ} {es : List Mover} {seen 
             earlier = λ k h. omega (arith, b .earlier k h);
             once = b .once;
             crowd = b .crowd;
-            counts = λ c. b .counts c ∙ ap (λ (r : List ℕ). ltb (getD L c CN) s || any (eqb (getD L c CN)) r) pass ∙ ap (λ (x : Bool). x || any (eqb (getD L c CN)) (rest limit L n (s + 1))) (below-next (getD L c CN) s (no-label c));
+            counts = λ c. b .counts c ∙ ap (λ (r : List ℕ). ltb (getD L c CN) s || any (eqb (getD L c CN)) r) pass
+                ∙ ap (λ (x : Bool). x || any (eqb (getD L c CN)) (rest limit L n (s + 1))) (below-next (getD L c CN) s (no-label c));
             lead = ⊎-elim
-                (λ x. inl (record { zero = x .zero; empty = x .empty; start = x .start; nobody = x .nobody; clear = λ c. ⊎-elim (λ h. absurd (no-label c (omega (arith, x .clear c)))) (λ h. h) (below? (getD L c CN) (s + 1)); left = ap (keptOf L es) (sym pass) ∙ x .left }))
-                (λ x. inr (record { w = x .w; past = omega (arith, x .past); some = x .some; room = x .room; theirs = x .theirs; queued = x .queued; size = x .size; crowd = x .crowd; left = ap (best L es (x .w)) (sym pass) ∙ x .left }))
+                (λ x. inl (record {
+                  zero = x .zero;
+                  empty = x .empty;
+                  start = x .start;
+                  nobody = x .nobody;
+                  clear = λ c. ⊎-elim (λ h. absurd (no-label c (omega (arith, x .clear c)))) (λ h. h) (below? (getD L c CN) (s + 1));
+                  left = ap (keptOf L es) (sym pass)
+                      ∙ x .left;
+                }))
+                (λ x. inr (record {
+                  w = x .w;
+                  past = omega (arith, x .past);
+                  some = x .some;
+                  room = x .room;
+                  theirs = x .theirs;
+                  queued = x .queued;
+                  size = x .size;
+                  crowd = x .crowd;
+                  left = ap (best L es (x .w)) (sym pass) ∙ x .left;
+                }))
                 (b .lead);
           }
 
@@ -345,8 +364,11 @@ module _ {g L : List ℕ} (R : Right g L) {limit : ℕ} {es : List Mover} {seen 
                 earlier = found-earlier;
                 once = found-once;
                 crowd = st;
-                counts = λ c. b .counts c ∙ ap (λ (r : List ℕ). ltb (getD L c CN) s || any (eqb (getD L c CN)) r) next ∙ or-step (getD L c CN) s (any (eqb (getD L c CN)) (rest limit L (n + 1) (s + 1)));
-                lead = inr (subst (λ (x : Lead). Best limit L es q′ t′ x (n + 1) (s + 1)) (sym y) (cond-both (λ x. Best limit L es q′ t′ x (n + 1) (s + 1)) (more (stand - stood) (t′ - t) (l .crowd) (l .to - l .from)) (record { from = t; to = t′; crowd = stand - stood }) l (λ z. now-best (won z)) lost));
+                counts = λ c. b .counts c ∙ ap (λ (r : List ℕ). ltb (getD L c CN) s || any (eqb (getD L c CN)) r) next
+                    ∙ or-step (getD L c CN) s (any (eqb (getD L c CN)) (rest limit L (n + 1) (s + 1)));
+                lead = inr (subst (λ (x : Lead). Best limit L es q′ t′ x (n + 1) (s + 1)) (sym y)
+                    (cond-both (λ x. Best limit L es q′ t′ x (n + 1) (s + 1)) (more (stand - stood) (t′ - t) (l .crowd) (l .to - l .from))
+                    (record { from = t; to = t′; crowd = stand - stood }) l (λ z. now-best (won z)) lost));
               }
 
   -- ---- the end
@@ -373,7 +395,13 @@ module _ {g L : List ℕ} (R : Right g L) {limit : ℕ} {es : List Mover} {seen 
               (let f : ℕ → Bool = λ x. ltb x s in omega (arith, b .full, free-count L seen s (b .len ∙ sym (R .len)) (b .marks), count-not f L, R .len))
               ∙ count-same (λ x. ltb x s) (λ x. any (eqb x) (counted limit L)) L L CN CN refl (λ c h. is-counted c);
           best = ⊎-elim
-              (λ x. inl (record { none = x .empty; all = λ c. omega (arith, x .clear c, all (x .zero)); off = λ c. sym (is-counted c) ∙ le-ltb (getD L c CN) s (x .clear c); keep = sym (x .left) ∙ ap (keptOf L es) none }))
+              (λ x. inl (record {
+                none = x .empty;
+                all = λ c. omega (arith, x .clear c, all (x .zero));
+                off = λ c. sym (is-counted c)
+                    ∙ le-ltb (getD L c CN) s (x .clear c);
+                keep = sym (x .left) ∙ ap (keptOf L es) none;
+              }))
               (λ x. let y : x .w ≡ kept limit L es = sym (best-last L es (x .w)) ∙ ap (best L es (x .w)) (sym none) ∙ x .left in
               inr (record {
                 some = x .some;
@@ -395,7 +423,8 @@ module _ {g L : List ℕ} (R : Right g L) {limit : ℕ} {es : List Mover} {seen 
   chosen-end h = let e : s ≡ CN = omega (arith, b .order) in chosen (rest-end limit L n s (R .len ∙ sym e)) (λ z. e)
 
 -- where nothing is marked yet
-pub between-start : {g L : List ℕ} (R : Right g L) {limit : ℕ} (es : List Mover) {seen q : List ℕ} → length g ≡ CN → seen ≡ replicate CN 0 → length q ≡ CN → 0 < limit → Between g L limit es seen q (record { from = 0; to = 0; crowd = 0 }) 0 0 0 0
+pub between-start : {g L : List ℕ} (R : Right g L) {limit : ℕ} (es : List Mover) {seen q : List ℕ} → length g ≡ CN → seen ≡ replicate CN 0 → length q ≡ CN → 0 < limit
+    → Between g L limit es seen q (record { from = 0; to = 0; crowd = 0 }) 0 0 0 0
 between-start {g} {L} R {limit} es {seen} {q} lg z lq p =
     record {
       cells = lg;
@@ -409,7 +438,8 @@ between-start {g} {L} R {limit} es {seen} {q} lg z lq p =
       earlier = λ k h. absurd (omega arith);
       once = λ i j h. absurd (omega arith);
       crowd = sym (nobody es);
-      counts = λ c. ap (λ (r : List ℕ). any (eqb (getD L c CN)) r) (sym whole) ∙ ap (λ (x : Bool). x || any (eqb (getD L c CN)) (rest limit L 0 0)) (sym (le-ltb (getD L c CN) 0 (omega arith)));
+      counts = λ c. ap (λ (r : List ℕ). any (eqb (getD L c CN)) r) (sym whole)
+          ∙ ap (λ (x : Bool). x || any (eqb (getD L c CN)) (rest limit L 0 0)) (sym (le-ltb (getD L c CN) 0 (omega arith)));
       lead = inl (record { zero = refl; empty = refl; start = refl; nobody = refl; clear = λ c. omega arith; left = ap (keptOf L es) whole });
     }
   where

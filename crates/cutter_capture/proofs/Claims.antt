@@ -29,7 +29,8 @@ module _ (g N : List ℕ) (lg : length g ≡ CN) (ln : length N ≡ CN) where
       record {
         order = omega arith;
         len = length-set h i v ∙ c .len;
-        past = fill-more h (zipWith shut g N) i v 0 (omega (arith, c .len)) (omega (arith, long)) (c .past) (e ∙ ap (λ (x : ℕ). shut x (getD N i 0)) (c .rest i (omega arith)) ∙ sym (getD-zipWith shut g N i 0 0 0 (omega arith) (omega arith)));
+        past = fill-more h (zipWith shut g N) i v 0 (omega (arith, c .len)) (omega (arith, long)) (c .past)
+            (e ∙ ap (λ (x : ℕ). shut x (getD N i 0)) (c .rest i (omega arith)) ∙ sym (getD-zipWith shut g N i 0 0 0 (omega arith) (omega arith)));
         rest = λ k m. getD-set-other h i k v 0 (λ z. omega arith) ∙ c .rest k (omega arith);
       }
 

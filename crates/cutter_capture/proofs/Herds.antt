@@ -22,7 +22,8 @@ slots-more : (k : List Mover) (m : Mover) → length k < MAX-ENEMIES → set (sl
 slots-more k m h =
     let l = length-append k (m ∷ []) in
     let e : MAX-ENEMIES - length k ≡ suc (MAX-ENEMIES - length (k ++ m ∷ [])) = omega arith in
-    ap (λ (n : ℕ). set (k ++ replicate n blankSlot) (length k) m) e ∙ set-append-seam k blankSlot (replicate (MAX-ENEMIES - length (k ++ m ∷ [])) blankSlot) m ∙ sym (append-snoc k m (replicate (MAX-ENEMIES - length (k ++ m ∷ [])) blankSlot))
+    ap (λ (n : ℕ). set (k ++ replicate n blankSlot) (length k) m) e ∙ set-append-seam k blankSlot (replicate (MAX-ENEMIES - length (k ++ m ∷ [])) blankSlot) m
+    ∙ sym (append-snoc k m (replicate (MAX-ENEMIES - length (k ++ m ∷ [])) blankSlot))
 
 -- those of the first i creatures that have the mark w
 abbrev those : List ℕ → ℕ → List Mover → List Mover

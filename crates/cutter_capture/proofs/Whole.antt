@@ -84,7 +84,9 @@ module _ {g L : List ℕ} (R : Right g L) {limit : ℕ} {es : List Mover} {seen 
 
       some : Keeps limit L es q a b → count (λ l. any (eqb l) (counted limit L)) L ≡ takenIn limit L es + (b - a)
       some x =
-          let e : count (λ l. any (eqb l) (counted limit L)) L ≡ takenIn limit L es + cellsIn L (kept limit L es) = count-plus (λ l. any (eqb l) (counted limit L)) (isTaken (counted limit L) (kept limit L es)) (λ l. eqb l (kept limit L es)) (λ l. bits l (kept limit L es) (x .among)) L in
+          let e : count (λ l. any (eqb l) (counted limit L)) L
+          ≡ takenIn limit L es + cellsIn L (kept limit L es) = count-plus (λ l. any (eqb l) (counted limit L)) (isTaken (counted limit L) (kept limit L es))
+          (λ l. eqb l (kept limit L es)) (λ l. bits l (kept limit L es) (x .among)) L in
           omega (arith, e, x .size)
 
   -- only black cells are taken from the queue
@@ -99,7 +101,8 @@ module _ {g L : List ℕ} (R : Right g L) {limit : ℕ} {es : List Mover} {seen 
   taken-le lg =
       let p : ℕ → ℕ = λ x. bit (eqb x CB-BLACK) in
       let f : ℕ → Bool = λ x. eqb x SEEN in
-      let i = count-same f (λ l. any (eqb l) (counted limit L)) seen L 0 CN (h .len ∙ sym (R .len)) (λ c i. ap f (h .marks c) ∙ bit-seen (any (eqb (getD L c CN)) (counted limit L))) in
+      let i = count-same f (λ l. any (eqb l) (counted limit L)) seen L 0 CN (h .len ∙ sym (R .len))
+      (λ c i. ap f (h .marks c) ∙ bit-seen (any (eqb (getD L c CN)) (counted limit L))) in
       let ii = count-mono f seen (map p g) 0 (h .len ∙ sym (length-map g p ∙ lg)) (λ c i. marked-black c) in
       let iii = count-map f p g in
       let iv = count-same (λ x. f (p x)) (λ x. eqb x CB-BLACK) g g 0 0 refl (λ c i. bit-seen (eqb (getD g c 0) CB-BLACK)) in
@@ -127,7 +130,8 @@ module _ {g L : List ℕ} (R : Right g L) {limit : ℕ} {es : List Mover} {seen 
         some x =
             ⊎-elim
             (λ e. rw (in-kept x c e, eq-eqb (getD L c CN) (kept limit L es) e) (sym (and-false (any (eqb (getD L c CN)) (counted limit L)))))
-            (λ n. rw (elsewhere x c n, ne-eqb (getD L c CN) (kept limit L es) n) (bit-seen (any (eqb (getD L c CN)) (counted limit L)) ∙ sym (and-true (any (eqb (getD L c CN)) (counted limit L)))))
+            (λ n. rw (elsewhere x c n, ne-eqb (getD L c CN) (kept limit L es) n)
+            (bit-seen (any (eqb (getD L c CN)) (counted limit L)) ∙ sym (and-true (any (eqb (getD L c CN)) (counted limit L)))))
             (same? (getD L c CN) (kept limit L es))
 
     grid-is : length g ≡ CN → zipWith shut g seen′ ≡ claim (counted limit L) (kept limit L es) g L
@@ -159,7 +163,8 @@ module _ {g L : List ℕ} (R : Right g L) {limit : ℕ} {es : List Mover} {seen 
     unfolding remaining
     herd-is = filter-ext (λ e. eqb (markOf seen′ e) (keepOf a b)) (λ e. eqb (regionOf L e) (kept limit L es)) (λ (_ : Mover). true) (λ e _. keep-is (placeOf e)) es (all-true es)
 
-    pub steps-closed : length g ≡ CN → (g′ : List ℕ) (r : Herd) (w : ℕ) → g′ ≡ zipWith shut g seen′ → w ≡ keepOf a b → Retained seen′ w es r → _≡_ {A = Cut} (record { grid = g′; enemies = r .enemies; count = r .count }) (closed limit g L es)
+    pub steps-closed : length g ≡ CN → (g′ : List ℕ) (r : Herd) (w : ℕ) → g′ ≡ zipWith shut g seen′ → w ≡ keepOf a b → Retained seen′ w es r
+        → _≡_ {A = Cut} (record { grid = g′; enemies = r .enemies; count = r .count }) (closed limit g L es)
     steps-closed lg g′ r w e k t = rw (e, t .slot, t .many, k, herd-is, grid-is lg)
 
 -- ---- the line is claimed first

@@ -24,11 +24,13 @@ rest y r h = omega arith
 module _ {g L : List ℕ} (R : Right g L) (inner : (c : ℕ) → Black g c → (0 < c % 64) × (c % 64 < 63) × (64 ≤ c) × (c < 1984)) where
   left-root : (n : ℕ) → n < 2048 → getD L n CN ≡ n → left L n ≡ left L (n + 1) + 1
   unfolding left
-  left-root n h e = ap (λ (l : List ℕ). length (rootsFrom n l)) (drop-one L n CN (omega (arith, R .len))) ∙ ap length (roots-root n (getD L n CN) (drop (n + 1) L) e) ∙ ap (λ (m : ℕ). suc (length (rootsFrom m (drop (n + 1) L)))) (sym (add-one n)) ∙ omega arith
+  left-root n h e = ap (λ (l : List ℕ). length (rootsFrom n l)) (drop-one L n CN (omega (arith, R .len))) ∙ ap length (roots-root n (getD L n CN) (drop (n + 1) L) e)
+      ∙ ap (λ (m : ℕ). suc (length (rootsFrom m (drop (n + 1) L)))) (sym (add-one n)) ∙ omega arith
 
   left-pass : (n : ℕ) → n < 2048 → (getD L n CN ≡ n → ⊥) → left L n ≡ left L (n + 1)
   unfolding left
-  left-pass n h e = ap (λ (l : List ℕ). length (rootsFrom n l)) (drop-one L n CN (omega (arith, R .len))) ∙ ap length (roots-pass n (getD L n CN) (drop (n + 1) L) e) ∙ ap (λ (m : ℕ). length (rootsFrom m (drop (n + 1) L))) (sym (add-one n))
+  left-pass n h e = ap (λ (l : List ℕ). length (rootsFrom n l)) (drop-one L n CN (omega (arith, R .len))) ∙ ap length (roots-pass n (getD L n CN) (drop (n + 1) L) e)
+      ∙ ap (λ (m : ℕ). length (rootsFrom m (drop (n + 1) L))) (sym (add-one n))
 
   left-end : left L 2048 ≡ 0
   unfolding left
@@ -44,7 +46,8 @@ module _ {g L : List ℕ} (R : Right g L) (inner : (c : ℕ) → Black g c → (
   pair n h k =
       ⊎-elim
       (λ e. let z = left-root n (omega arith) e in
-      let y = left-pass (n + 1) k (λ f. let s = right-same R n (n + 1) (step (here (right-black R n (omega arith))) (right h refl) (right-black R (n + 1) (omega arith))) in omega arith) in
+      let y = left-pass (n + 1) k (λ f. let s = right-same R n (n + 1)
+      (step (here (right-black R n (omega arith))) (right h refl) (right-black R (n + 1) (omega arith))) in omega arith) in
       omega arith)
       (λ e. let z = left-pass n (omega arith) e in let y = one (n + 1) k in omega arith) (same? (getD L n CN) n)
 

@@ -30,7 +30,8 @@ roots-below zero x c ls h = absurd (false≢true h)
 roots-below (suc m) x c [] h = absurd (false≢true (rw (roots-none c) at h))
 roots-below (suc m) x c (l ∷ ls) h =
     ⊎-elim
-    (λ e. ⊎-elim (λ t. let z = eqb-true x c t in omega arith) (λ t. let z = roots-below m x (suc c) ls t in omega arith) (or-cases (eqb x c) (any (eqb x) (take m (rootsFrom (suc c) ls))) (rw (roots-root c l ls e) at h)))
+    (λ e. ⊎-elim (λ t. let z = eqb-true x c t in omega arith) (λ t. let z = roots-below m x (suc c) ls t in omega arith)
+    (or-cases (eqb x c) (any (eqb x) (take m (rootsFrom (suc c) ls))) (rw (roots-root c l ls e) at h)))
     (λ e. let z = roots-below (suc m) x (suc c) ls (rw (roots-pass c l ls e) at h) in omega arith) (same? l c)
 
 -- a counted region begins at a cell of the list

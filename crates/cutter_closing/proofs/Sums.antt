@@ -64,13 +64,15 @@ module _ {h L : List ℕ} (R : Right h L) (len : length h ≡ CN) (limit : ℕ) 
   black-claim : tally CB-BLACK (claim (counted limit L) (kept limit L es) h L) + takenIn limit L es ≡ tally CB-BLACK h
   unfolding claim tally
   black-claim =
-      count-zip-less (λ x r. cond (isTaken (counted limit L) (kept limit L es) r) CB-FILLED x) (λ x. eqb x CB-BLACK) (λ x. eqb x CB-BLACK) (isTaken (counted limit L) (kept limit L es)) CB-FILLED CN h L (len ∙ sym (R .len))
+      count-zip-less (λ x r. cond (isTaken (counted limit L) (kept limit L es) r) CB-FILLED x) (λ x. eqb x CB-BLACK) (λ x. eqb x CB-BLACK)
+      (isTaken (counted limit L) (kept limit L es)) CB-FILLED CN h L (len ∙ sym (R .len))
       (λ i k. black-bit (isTaken (counted limit L) (kept limit L es) (getD L i CN)) (cellAt h i) (taken-black i))
 
   filled-claim : tally CB-FILLED (claim (counted limit L) (kept limit L es) h L) ≡ tally CB-FILLED h + takenIn limit L es
   unfolding claim tally
   filled-claim =
-      count-zip-more (λ x r. cond (isTaken (counted limit L) (kept limit L es) r) CB-FILLED x) (λ x. eqb x CB-FILLED) (λ x. eqb x CB-FILLED) (isTaken (counted limit L) (kept limit L es)) CB-FILLED CN h L (len ∙ sym (R .len))
+      count-zip-more (λ x r. cond (isTaken (counted limit L) (kept limit L es) r) CB-FILLED x) (λ x. eqb x CB-FILLED) (λ x. eqb x CB-FILLED)
+      (isTaken (counted limit L) (kept limit L es)) CB-FILLED CN h L (len ∙ sym (R .len))
       (λ i k. filled-bit (isTaken (counted limit L) (kept limit L es) (getD L i CN)) (cellAt h i) (taken-black i))
 
   claim-length : length (claim (counted limit L) (kept limit L es) h L) ≡ CN
@@ -135,16 +137,21 @@ module _ (limit : ℕ) (g : List ℕ) (es : List Mover) (len : length g ≡ CN) 
   no-line-after = any-zero (λ x. eqb x CB-TRAIL) (closeCut limit g es .grid) none-line
 
   -- the cell c afterwards
-  cell-after : (c : ℕ) → c < CN → cellAt (closeCut limit g es .grid) c ≡ cond (isTaken (counted limit (labels (claimLine g) .0)) (kept limit (labels (claimLine g) .0) es) (getD (labels (claimLine g) .0) c CN)) CB-FILLED (lineClaimed (cellAt g c))
+  cell-after : (c : ℕ) → c < CN → cellAt (closeCut limit g es .grid) c
+      ≡ cond (isTaken (counted limit (labels (claimLine g) .0)) (kept limit (labels (claimLine g) .0) es) (getD (labels (claimLine g) .0) c CN)) CB-FILLED
+      (lineClaimed (cellAt g c))
   unfolding closeCut
   cell-after c k =
       claim-at right line-length limit es c k
-      ∙ ap (λ (x : ℕ). cond (isTaken (counted limit (labels (claimLine g) .0)) (kept limit (labels (claimLine g) .0) es) (getD (labels (claimLine g) .0) c CN)) CB-FILLED x) (List·getD-map lineClaimed g c CB-FILLED)
+      ∙ ap (λ (x : ℕ). cond (isTaken (counted limit (labels (claimLine g) .0)) (kept limit (labels (claimLine g) .0) es) (getD (labels (claimLine g) .0) c CN)) CB-FILLED
+      x) (List·getD-map lineClaimed g c CB-FILLED)
 
   -- a claimed cell stays claimed: the ring among them
   pub claimed-stays : (c : ℕ) → cellAt g c ≡ CB-FILLED → cellAt (closeCut limit g es .grid) c ≡ CB-FILLED
   claimed-stays c e =
-      ⊎-elim (λ k. cell-after c k ∙ cond-both (λ y. y ≡ CB-FILLED) (isTaken (counted limit (labels (claimLine g) .0)) (kept limit (labels (claimLine g) .0) es) (getD (labels (claimLine g) .0) c CN)) CB-FILLED (lineClaimed (cellAt g c)) (λ _. refl) (λ _. rw e))
+      ⊎-elim (λ k. cell-after c k ∙ cond-both (λ y. y ≡ CB-FILLED)
+      (isTaken (counted limit (labels (claimLine g) .0)) (kept limit (labels (claimLine g) .0) es) (getD (labels (claimLine g) .0) c CN)) CB-FILLED
+      (lineClaimed (cellAt g c)) (λ _. refl) (λ _. rw e))
       (λ k. List·getD-eq-default (closeCut limit g es .grid) CB-FILLED {n = c} (omega (arith, length-after))) (below? c CN)
 
   -- ---- the creatures
@@ -176,7 +183,8 @@ module _ (limit : ℕ) (g : List ℕ) (es : List Mover) (len : length g ≡ CN) 
   unfolding closeCut
   slots-after h =
       let rest = remaining (labels (claimLine g) .0) (kept limit (labels (claimLine g) .0) es) es in
-      length-append rest (replicate (MAX-ENEMIES - length rest) blankSlot) ∙ ap (λ (n : ℕ). length rest + n) (length-replicate (MAX-ENEMIES - length rest) blankSlot) ∙ omega (arith, few-after)
+      length-append rest (replicate (MAX-ENEMIES - length rest) blankSlot) ∙ ap (λ (n : ℕ). length rest + n) (length-replicate (MAX-ENEMIES - length rest) blankSlot)
+      ∙ omega (arith, few-after)
 
   -- what holds of each creature holds of each that remains
   pub all-left : (f : Mover → Bool) → all f es ≡ true → all f (take (closeCut limit g es .count) (closeCut limit g es .enemies)) ≡ true
@@ -184,13 +192,18 @@ module _ (limit : ℕ) (g : List ℕ) (es : List Mover) (len : length g ≡ CN) 
   all-left f a = rw left-after (all-filter (λ m. eqb (regionOf (labels (claimLine g) .0) m) (kept limit (labels (claimLine g) .0) es)) f es a)
 
   -- a black cell of the kept region stays black
-  kept-black : (m : Mover) → eqb (regionOf (labels (claimLine g) .0) m) (kept limit (labels (claimLine g) .0) es) ≡ true → blackAt g (placeOf m) ≡ true → blackAt (closeCut limit g es .grid) (placeOf m) ≡ true
+  kept-black : (m : Mover) → eqb (regionOf (labels (claimLine g) .0) m) (kept limit (labels (claimLine g) .0) es) ≡ true → blackAt g (placeOf m) ≡ true
+      → blackAt (closeCut limit g es .grid) (placeOf m) ≡ true
   kept-black m e b =
       let k = eqb-true (cellAt g (placeOf m)) CB-BLACK b in
       eq-eqb (cellAt (closeCut limit g es .grid) (placeOf m)) CB-BLACK
-      (cell-after (placeOf m) (omega (arith, black-in g (placeOf m) k)) ∙ rw (e, k) (not-taken (any (eqb (regionOf (labels (claimLine g) .0) m)) (counted limit (labels (claimLine g) .0)))))
+      (cell-after (placeOf m) (omega (arith, black-in g (placeOf m) k))
+      ∙ rw (e, k) (not-taken (any (eqb (regionOf (labels (claimLine g) .0) m)) (counted limit (labels (claimLine g) .0)))))
 
   -- every creature left stands on black
-  pub left-on-black : all (λ m. blackAt g (placeOf m)) es ≡ true → all (λ m. blackAt (closeCut limit g es .grid) (placeOf m)) (take (closeCut limit g es .count) (closeCut limit g es .enemies)) ≡ true
+  pub left-on-black : all (λ m. blackAt g (placeOf m)) es ≡ true
+      → all (λ m. blackAt (closeCut limit g es .grid) (placeOf m)) (take (closeCut limit g es .count) (closeCut limit g es .enemies)) ≡ true
   unfolding remaining
-  left-on-black a = rw left-after (all-passed (λ m. eqb (regionOf (labels (claimLine g) .0) m) (kept limit (labels (claimLine g) .0) es)) (λ m. blackAt g (placeOf m)) (λ m. blackAt (closeCut limit g es .grid) (placeOf m)) kept-black es a)
+  left-on-black a = rw left-after
+      (all-passed (λ m. eqb (regionOf (labels (claimLine g) .0) m) (kept limit (labels (claimLine g) .0) es)) (λ m. blackAt g (placeOf m))
+      (λ m. blackAt (closeCut limit g es .grid) (placeOf m)) kept-black es a)

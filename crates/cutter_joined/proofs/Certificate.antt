@@ -23,7 +23,8 @@ every4 f i (a ∷ xs) (b ∷ bs) [] ds = false
 every4 f i (a ∷ xs) (b ∷ bs) (c ∷ cs) [] = false
 every4 f i (a ∷ xs) (b ∷ bs) (c ∷ cs) (d ∷ ds) = f i a b c d && every4 f (suc i) xs bs cs ds
 
-every4-from : (f : ℕ → ℕ → ℕ → ℕ → ℕ → Bool) (i : ℕ) (xs bs cs ds : List ℕ) → every4 f i xs bs cs ds ≡ true → (k : ℕ) → k < length xs → f (i + k) (getD xs k CB-FILLED) (getD bs k CN) (getD cs k CN) (getD ds k CN) ≡ true
+every4-from : (f : ℕ → ℕ → ℕ → ℕ → ℕ → Bool) (i : ℕ) (xs bs cs ds : List ℕ) → every4 f i xs bs cs ds ≡ true → (k : ℕ) → k < length xs
+    → f (i + k) (getD xs k CB-FILLED) (getD bs k CN) (getD cs k CN) (getD ds k CN) ≡ true
 unfolding every4
 every4-from f i [] bs cs ds t k h = absurd (not-suc-le-zero h)
 every4-from f i (a ∷ xs) [] cs ds t k h = absurd (false≢true t)

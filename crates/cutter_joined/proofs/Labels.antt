@@ -75,7 +75,8 @@ module _ {g L : List ℕ} (long : length g ≡ CN) (l : Low g L) where
         omega (arith, a .less, b .less, d .less, e .less),
         λ x n m.
             one-of g long c (λ x. Black g x → lower g L (leftOf c) (lower g L (rightOf c) (lower g L (upOf c) (lower g L (downOf c) (getD L c CN)))) ≤ getD L x CN)
-            (λ m. e .under m) (λ m. omega (arith, d .under m, e .less)) (λ m. omega (arith, b .under m, d .less, e .less)) (λ m. omega (arith, a .under m, b .less, d .less, e .less))
+            (λ m. e .under m) (λ m. omega (arith, d .under m, e .less)) (λ m. omega (arith, b .under m, d .less, e .less))
+            (λ m. omega (arith, a .under m, b .less, d .less, e .less))
             x n m m,
       )
 

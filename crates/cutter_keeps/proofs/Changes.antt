@@ -53,11 +53,39 @@ module _ {c s : Cutter} (k : Kept c s) where
   w = k .formed
 
   -- dead and won are free in value; the rest of what is not the grid, within its bounds
-  kept-about : (x y : ℕ) (a b : ℤ) (n l : ℕ) (d v : Bool) → holdsAt (s .grid) (footing (s .trailing)) x y ≡ true → directionOk a b ≡ true → l ≤ MAX-LIVES → (1 ≤ n) × (n ≤ MAX-LEVEL)
-      → Kept c (record { grid = s .grid; px = x; py = y; dx = a; dy = b; trailing = s .trailing; enemies = s .enemies; count = s .count; level = n; lives = l; dead = d; «won_level» = v })
+  kept-about : (x y : ℕ) (a b : ℤ) (n l : ℕ) (d v : Bool) → holdsAt (s .grid) (footing (s .trailing)) x y ≡ true → directionOk a b ≡ true → l ≤ MAX-LIVES
+      → (1 ≤ n) × (n ≤ MAX-LEVEL)
+      → Kept c (record {
+        grid = s .grid;
+        px = x;
+        py = y;
+        dx = a;
+        dy = b;
+        trailing = s .trailing;
+        enemies = s .enemies;
+        count = s .count;
+        level = n;
+        lives = l;
+        dead = d;
+        «won_level» = v;
+      })
   kept-about x y a b n l d v p o h q =
       record {
-        formed = record { cells = w .cells; codes = w .codes; rows = w .rows; columns = w .columns; line = w .line; player = p; direction = o; slots = w .slots; few = w .few; each = w .each; rest = w .rest; lives = h; level = q };
+        formed = record {
+          cells = w .cells;
+          codes = w .codes;
+          rows = w .rows;
+          columns = w .columns;
+          line = w .line;
+          player = p;
+          direction = o;
+          slots = w .slots;
+          few = w .few;
+          each = w .each;
+          rest = w .rest;
+          lives = h;
+          level = q;
+        };
         black = k .black;
         claimed = k .claimed;
         line = k .line;
@@ -84,10 +112,25 @@ module _ {c s : Cutter} (k : Kept c s) where
   kept-won b = kept-about (s .px) (s .py) (s .dx) (s .dy) (s .level) (s .lives) (s .dead) b (w .player) (w .direction) (w .lives) (w .level)
 
   -- as many creatures, each right by itself
-  pub kept-creatures : (es : List Mover) → length es ≡ MAX-ENEMIES → all (moverOk (s .grid)) (take (s .count) es) ≡ true → all isBlank (drop (s .count) es) ≡ true → Kept c (withCreatures s es (s .count))
+  pub kept-creatures : (es : List Mover) → length es ≡ MAX-ENEMIES → all (moverOk (s .grid)) (take (s .count) es) ≡ true → all isBlank (drop (s .count) es) ≡ true
+      → Kept c (withCreatures s es (s .count))
   kept-creatures es l a b =
       record {
-        formed = record { cells = w .cells; codes = w .codes; rows = w .rows; columns = w .columns; line = w .line; player = w .player; direction = w .direction; slots = l; few = w .few; each = a; rest = b; lives = w .lives; level = w .level };
+        formed = record {
+          cells = w .cells;
+          codes = w .codes;
+          rows = w .rows;
+          columns = w .columns;
+          line = w .line;
+          player = w .player;
+          direction = w .direction;
+          slots = l;
+          few = w .few;
+          each = a;
+          rest = b;
+          lives = w .lives;
+          level = w .level;
+        };
         black = k .black;
         claimed = k .claimed;
         line = k .line;

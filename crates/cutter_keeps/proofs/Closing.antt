@@ -15,7 +15,8 @@ use Rattle.cutter_ground.specs.declared.Mover.{Mover}
 use Rattle.cutter_closing.specs.Counted.{MAX-COMP}
 use Rattle.cutter_closing.specs.Closing.{closeCut}
 use Rattle.cutter_closing.specs.declared.Cut.{Cut}
-use Rattle.cutter_closing.proofs.Sums.{claimed-after, black-after, length-after, all-after, line-after, no-line-after, claimed-stays, creatures-after, spare-after, few-after, slots-after, all-left, left-on-black}
+use Rattle.cutter_closing.proofs.Sums.{claimed-after, black-after, length-after, all-after, line-after, no-line-after, claimed-stays, creatures-after}
+use Rattle.cutter_closing.proofs.Sums.{spare-after, few-after, slots-after, all-left, left-on-black}
 use Rattle.cutter_state.specs.declared.Cutter.{Cutter}
 use Rattle.cutter_state.specs.State.{creatures}
 use Rattle.cutter_state.specs.WellFormed.{isCode, moverOk, WellFormed}
@@ -71,7 +72,8 @@ module _ {c : Cutter} (w : WellFormed c) (t : ℕ) (h : t < CN) (f : cellAt (c .
           direction = w .direction;
           slots = slots-after MAX-COMP g es (w .cells) (omega (arith, many, w .few));
           few = omega (arith, few-after MAX-COMP g es (w .cells), many, w .few);
-          each = movers-on g g′ (take (cut .count) (cut .enemies)) (all-left MAX-COMP g es (w .cells) (moverOk g) (w .each)) (left-on-black MAX-COMP g es (w .cells) (all-weaken (moverOk g) (λ e. blackAt g (placeOf e)) (mover-black g) es (w .each)));
+          each = movers-on g g′ (take (cut .count) (cut .enemies)) (all-left MAX-COMP g es (w .cells) (moverOk g) (w .each))
+              (left-on-black MAX-COMP g es (w .cells) (all-weaken (moverOk g) (λ e. blackAt g (placeOf e)) (mover-black g) es (w .each)));
           rest = rw (spare-after MAX-COMP g es (w .cells)) (zeros-blank (MAX-ENEMIES - cut .count));
           lives = w .lives;
           level = w .level;

@@ -38,7 +38,8 @@ module _ (g : List ℕ) (t : ℕ) (h : t < length g) (b : cellAt g t ≡ CB-BLAC
   unfolding tally
   laid-claimed = let q = rw b at (count-set (λ x. eqb x CB-FILLED) g t CB-TRAIL CB-FILLED h) in omega arith
 
-pub laying : {c : Cutter} → WellFormed c → (t : ℕ) (d : Bool) → t < CN → d ≡ true → cellAt (c .grid) t ≡ CB-BLACK → any (λ e. eqb (placeOf e) t) (creatures c) ≡ false → Laid c (withTrailing (laid c t) d)
+pub laying : {c : Cutter} → WellFormed c → (t : ℕ) (d : Bool) → t < CN → d ≡ true → cellAt (c .grid) t ≡ CB-BLACK → any (λ e. eqb (placeOf e) t) (creatures c) ≡ false
+    → Laid c (withTrailing (laid c t) d)
 laying {c} w t d h f b n =
     let g = c .grid in
     let i : t < length g = omega (arith, w .cells) in

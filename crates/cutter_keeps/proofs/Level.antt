@@ -59,7 +59,8 @@ drawn-ok : (draws : List ℕ) (i : ℕ) → inRange draws i ≡ true → moverOk
 unfolding moverOk drawnMover
 drawn-ok draws i r =
     let f = place-fits draws i r in
-    let h = code-holds freshGrid CB-BLACK (1 + drawAt draws i 0) (1 + drawAt draws i 1) (omega arith) (omega arith) (inner-black (drawAt draws i 0) (drawAt draws i 1) (f .0) (f .1)) in
+    let h = code-holds freshGrid CB-BLACK (1 + drawAt draws i 0) (1 + drawAt draws i 1) (omega arith) (omega arith)
+    (inner-black (drawAt draws i 0) (drawAt draws i 1) (f .0) (f .1)) in
     rw (h, velocity-unit (drawAt draws i 2)) (velocity-unit (drawAt draws i 3))
 
 -- ---- the level
@@ -80,7 +81,8 @@ pub ground : Ground freshGrid
 unfolding freshGrid rowsFilled columnsFilled holdsAt tally
 ground = record { cells = refl; codes = refl; rows = refl; columns = refl; unlined = refl; start = refl; black = refl; claimed = refl; line = refl }
 
-pub level-fresh : (c : Cutter) (draws : List ℕ) → c .lives ≤ MAX-LIVES → 1 ≤ c .level → c .level ≤ MAX-LEVEL → drawsOk draws (creaturesOf (c .level)) ≡ true → Fresh (freshLevel c draws)
+pub level-fresh : (c : Cutter) (draws : List ℕ) → c .lives ≤ MAX-LIVES → 1 ≤ c .level → c .level ≤ MAX-LEVEL → drawsOk draws (creaturesOf (c .level)) ≡ true
+    → Fresh (freshLevel c draws)
 unfolding freshLevel atStart
 level-fresh c draws h a b o =
     let n = creaturesOf (c .level) in

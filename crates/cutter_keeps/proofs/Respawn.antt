@@ -59,7 +59,8 @@ module _ (g : List ℕ) where
 
   claimed-erased : tally CB-FILLED h ≡ tally CB-FILLED g
   unfolding tally
-  claimed-erased = count-map (λ x. eqb x CB-FILLED) lineErased g ∙ count-ext (λ x. eqb (lineErased x) CB-FILLED) (λ x. eqb x CB-FILLED) (λ _. true) (λ x _. erased-claimed x) g (all-true g)
+  claimed-erased = count-map (λ x. eqb x CB-FILLED) lineErased g
+      ∙ count-ext (λ x. eqb (lineErased x) CB-FILLED) (λ x. eqb x CB-FILLED) (λ _. true) (λ x _. erased-claimed x) g (all-true g)
 
   line-erased : tally CB-TRAIL h ≡ 0
   unfolding tally
@@ -86,7 +87,8 @@ erased-start c w =
         direction = refl;
         slots = w .slots;
         few = w .few;
-        each = movers-still g (map lineErased g) (λ _. false) (λ e _ b. erased-at g (placeOf e) CB-BLACK refl b) (creatures c) (any-zero (λ _. false) (creatures c) (all-true (creatures c))) (w .each);
+        each = movers-still g (map lineErased g) (λ _. false) (λ e _ b. erased-at g (placeOf e) CB-BLACK refl b) (creatures c)
+            (any-zero (λ _. false) (creatures c) (all-true (creatures c))) (w .each);
         rest = w .rest;
         lives = w .lives;
         level = w .level;

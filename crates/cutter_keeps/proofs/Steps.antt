@@ -118,7 +118,8 @@ step-stepped c w =
     cond-both (Stepped c) (noDirection c) _ _
     (λ d. halted (none-advances c d) (kept-self w))
     (λ d. cond-both (Stepped c) (leb CN (target c)) _ _
-    (λ l. halted (advances-by w d false (creatureAt (creatures c) (target c)) (le-ltb (target c) CN (leb-true CN (target c) l)) refl) (kept-direction (kept-self w) (pos 0) (pos 0) refl))
+    (λ l. halted (advances-by w d false (creatureAt (creatures c) (target c)) (le-ltb (target c) CN (leb-true CN (target c) l)) refl)
+    (kept-direction (kept-self w) (pos 0) (pos 0) refl))
     (λ l. met-stepped w (creatureAt (creatures c) (target c)) d (leb-false CN (target c) l) refl))
 
 -- ---- a step that closes is what document 01 says of it

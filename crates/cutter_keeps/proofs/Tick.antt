@@ -53,7 +53,8 @@ module _ (g : List ℕ) (l : length g ≡ CN) where
   ticked-ok (e ∷ es) a =
       cond-both (λ (r : List Mover). all (moverOk g) r ≡ true) (lineAhead g e) _ _
       (λ _. a)
-      (λ _. and-both (moverOk g (bounced g e)) (all (moverOk g) (moversStepped g es)) (bounced-ok e (and-left (moverOk g e) (all (moverOk g) es) a)) (ticked-ok es (and-right (moverOk g e) (all (moverOk g) es) a)))
+      (λ _. and-both (moverOk g (bounced g e)) (all (moverOk g) (moversStepped g es)) (bounced-ok e (and-left (moverOk g e) (all (moverOk g) es) a))
+      (ticked-ok es (and-right (moverOk g e) (all (moverOk g) es) a)))
 
 length-ticked : (g : List ℕ) (es : List Mover) → length (moversStepped g es) ≡ length es
 unfolding moversStepped
@@ -65,7 +66,8 @@ unfolding enemiesStepped
 tick-kept c w =
     let m = moversStepped (c .grid) (creatures c) in
     let n : length m ≡ c .count = length-ticked (c .grid) (creatures c) ∙ length-take-le (c .count) (c .enemies) (omega (arith, w .few, w .slots)) in
-    let whole : length (m ++ spare c) ≡ length (c .enemies) = length-append m (spare c) ∙ ap (λ (k : ℕ). k + length (spare c)) (length-ticked (c .grid) (creatures c)) ∙ sym (length-append (creatures c) (spare c)) ∙ ap length (take-append-drop (c .count) (c .enemies)) in
+    let whole : length (m ++ spare c) ≡ length (c .enemies) = length-append m (spare c) ∙ ap (λ (k : ℕ). k + length (spare c)) (length-ticked (c .grid) (creatures c))
+    ∙ sym (length-append (creatures c) (spare c)) ∙ ap length (take-append-drop (c .count) (c .enemies)) in
     kept-dead (kept-creatures (kept-self w) (m ++ spare c) (whole ∙ w .slots)
     (rw (take-at m (spare c) (c .count) n) (ticked-ok (c .grid) (w .cells) (creatures c) (w .each)))
     (rw (drop-at m (spare c) (c .count) n) (w .rest)))

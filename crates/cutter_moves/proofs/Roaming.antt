@@ -26,7 +26,8 @@ use Rattle.cutter_moves.specs.declared.enemies.View.{View}
 use Rattle.cutter_moves.specs.CodeMoves.{Roams, Ticks, viewOf, moverAt, roamOf, tickOf}
 use Rattle.cutter_ground.specs.Movers.{placeOf}
 
-view-same : {a b : ℕ} {s t u v w x : ℕ} → a ≡ b → s ≡ t → u ≡ v → w ≡ x → _≡_ {A = View} (record { to = a; side = s; vertical = u; diagonal = w }) (record { to = b; side = t; vertical = v; diagonal = x })
+view-same : {a b : ℕ} {s t u v w x : ℕ} → a ≡ b → s ≡ t → u ≡ v → w ≡ x
+    → _≡_ {A = View} (record { to = a; side = s; vertical = u; diagonal = w }) (record { to = b; side = t; vertical = v; diagonal = x })
 view-same p q r o = cc
 
 roamed-same : {l m : Mover} → l ≡ m → _≡_ {A = Roamed} (record { met = false; to = l }) (record { met = false; to = m })
@@ -34,7 +35,8 @@ roamed-same p = cc
 
 module _ (g : List ℕ) (e : Mover) where
   -- the three cells read on the grid are what the creature sees
-  pub seen : length g ≡ CN → (b a t : ℕ) → b ≡ sideOf (e .vx) (placeOf e) → b < CN → a ≡ verticalOf (e .vy) (placeOf e) → a < CN → t ≡ sideOf (e .vx) a → t < CN → record { to = t; side = getD g b 0; vertical = getD g a 0; diagonal = getD g t 0 } ≡ viewOf g e
+  pub seen : length g ≡ CN → (b a t : ℕ) → b ≡ sideOf (e .vx) (placeOf e) → b < CN → a ≡ verticalOf (e .vy) (placeOf e) → a < CN → t ≡ sideOf (e .vx) a → t < CN
+      → record { to = t; side = getD g b 0; vertical = getD g a 0; diagonal = getD g t 0 } ≡ viewOf g e
   seen l b a t p h q k r m =
       let read : (i : ℕ) → i < CN → getD g i 0 ≡ cellAt g i = λ i h. getD-default g i 0 CB-FILLED (omega arith) in
       let o : t ≡ diagonalOf (e .vx) (e .vy) (placeOf e) = r ∙ ap (sideOf (e .vx)) q in
@@ -42,14 +44,19 @@ module _ (g : List ℕ) (e : Mover) where
 
   module _ (v : View) (s : v ≡ viewOf g e) where
     -- black in all three: straight on, and no line
-    clear-on : (eqb (v .side) CB-BLACK && eqb (v .vertical) CB-BLACK && eqb (v .diagonal) CB-BLACK) ≡ true → (lineAhead g e ≡ false) × (moverAt (v .to) (e .vx) (e .vy) ≡ bounced g e)
+    clear-on : (eqb (v .side) CB-BLACK && eqb (v .vertical) CB-BLACK && eqb (v .diagonal) CB-BLACK) ≡ true
+        → (lineAhead g e ≡ false) × (moverAt (v .to) (e .vx) (e .vy) ≡ bounced g e)
     unfolding lineAhead bounced turned goneTo
     clear-on c =
         let t = and-three (eqb (v .side) CB-BLACK) (eqb (v .vertical) CB-BLACK) (eqb (v .diagonal) CB-BLACK) c in
         let a : eqb (cellAt g (sideOf (e .vx) (placeOf e))) CB-BLACK ≡ true = ap (λ (w : View). eqb (w .side) CB-BLACK) (sym s) ∙ t .0 in
         let b : eqb (cellAt g (verticalOf (e .vy) (placeOf e))) CB-BLACK ≡ true = ap (λ (w : View). eqb (w .vertical) CB-BLACK) (sym s) ∙ t .1 in
         let d : eqb (cellAt g (diagonalOf (e .vx) (e .vy) (placeOf e))) CB-BLACK ≡ true = ap (λ (w : View). eqb (w .diagonal) CB-BLACK) (sym s) ∙ t .2 in (
-          simp (eqb-true (cellAt g (sideOf (e .vx) (placeOf e))) CB-BLACK a, eqb-true (cellAt g (verticalOf (e .vy) (placeOf e))) CB-BLACK b, eqb-true (cellAt g (diagonalOf (e .vx) (e .vy) (placeOf e))) CB-BLACK d),
+          simp (
+            eqb-true (cellAt g (sideOf (e .vx) (placeOf e))) CB-BLACK a,
+            eqb-true (cellAt g (verticalOf (e .vy) (placeOf e))) CB-BLACK b,
+            eqb-true (cellAt g (diagonalOf (e .vx) (e .vy) (placeOf e))) CB-BLACK d,
+          ),
           ap (λ (w : View). moverAt (w .to) (e .vx) (e .vy)) s ∙ simp (a, b, d),
         )
 
@@ -63,13 +70,15 @@ module _ (g : List ℕ) (e : Mover) where
     bounce-seen = ap (λ (w : View). goneTo g e (cond (eqb (w .side) CB-BLACK) (e .vx) (flipped (e .vx))) (cond (eqb (w .vertical) CB-BLACK) (e .vy) (flipped (e .vy)))) s
 
     -- the three ways of a move
-    pub roam-clear : (eqb (v .side) CB-BLACK && eqb (v .vertical) CB-BLACK && eqb (v .diagonal) CB-BLACK) ≡ true → (m : Mover) → m ≡ moverAt (v .to) (e .vx) (e .vy) → record { met = false; to = m } ≡ roamOf g e
+    pub roam-clear : (eqb (v .side) CB-BLACK && eqb (v .vertical) CB-BLACK && eqb (v .diagonal) CB-BLACK) ≡ true → (m : Mover) → m ≡ moverAt (v .to) (e .vx) (e .vy)
+        → record { met = false; to = m } ≡ roamOf g e
     roam-clear c m q = let z = clear-on c in rw (z .0) (roamed-same (q ∙ z .1))
 
     pub roam-line : (eqb (v .side) CB-TRAIL || eqb (v .vertical) CB-TRAIL || eqb (v .diagonal) CB-TRAIL) ≡ true → record { met = true; to = e } ≡ roamOf g e
     roam-line l = rw (sym line-seen ∙ l)
 
-    pub roam-turned : (eqb (v .side) CB-TRAIL || eqb (v .vertical) CB-TRAIL || eqb (v .diagonal) CB-TRAIL) ≡ false → (m : Mover) → m ≡ bounced g e → record { met = false; to = m } ≡ roamOf g e
+    pub roam-turned : (eqb (v .side) CB-TRAIL || eqb (v .vertical) CB-TRAIL || eqb (v .diagonal) CB-TRAIL) ≡ false → (m : Mover) → m ≡ bounced g e
+        → record { met = false; to = m } ≡ roamOf g e
     roam-turned l m q = rw (sym line-seen ∙ l) (roamed-same q)
 
   -- a creature on black is inside the ring

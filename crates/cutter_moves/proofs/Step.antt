@@ -63,7 +63,8 @@ abbrev shut : Cutter → Cut → Cutter
 shut c cut = withTrailing (withCreatures (withGrid c (cut .grid)) (cut .enemies) (cut .count)) false
 
 -- a step that closes at the cell t: the cut closed, and where the walk from t ends
-closed-at : (c : Cutter) (t : ℕ) → t < CN → (cut : Cut) (end : ℕ) → cut ≡ closeCut MAX-COMP (c .grid) (creatures c) → end ≡ toBorder (cut .grid) t .at → entered (shut c cut) end ≡ closedAt c t
+closed-at : (c : Cutter) (t : ℕ) → t < CN → (cut : Cut) (end : ℕ) → cut ≡ closeCut MAX-COMP (c .grid) (creatures c) → end ≡ toBorder (cut .grid) t .at
+    → entered (shut c cut) end ≡ closedAt c t
 unfolding cutClosed atBorder
 closed-at c t h cut end e f =
     ap (entered (shut c cut)) (f ∙ walk-at (cut .grid) t h ∙ ap (λ (n : ℕ). nearest (cut .grid) n .0) (sym (place-cell t)))

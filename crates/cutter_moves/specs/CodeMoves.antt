@@ -52,7 +52,12 @@ pub record Ticks (g : List ℕ) (es : List Mover) (n : ℕ) : Type 0 where
 
 -- the diagonal cell ahead of a creature, and the codes of the side, the vertical and the diagonal one
 abbrev pub viewOf : List ℕ → Mover → View
-viewOf g e = record { to = diagonalOf (e .vx) (e .vy) (placeOf e); side = cellAt g (sideOf (e .vx) (placeOf e)); vertical = cellAt g (verticalOf (e .vy) (placeOf e)); diagonal = cellAt g (diagonalOf (e .vx) (e .vy) (placeOf e)) }
+viewOf g e = record {
+  to = diagonalOf (e .vx) (e .vy) (placeOf e);
+  side = cellAt g (sideOf (e .vx) (placeOf e));
+  vertical = cellAt g (verticalOf (e .vy) (placeOf e));
+  diagonal = cellAt g (diagonalOf (e .vx) (e .vy) (placeOf e));
+}
 
 -- a creature, and what it has ahead
 pub record Bounces (g : List ℕ) (e : Mover) (v : View) : Type 0 where

@@ -30,7 +30,20 @@ closedAt c t = atBorder (cutClosed (entered c t))
 
 -- the state after a step that closes nothing
 abbrev pub applied : Cutter → Step → Cutter
-applied c t = record { grid = set (c .grid) (t .at) (t .code); px = t .px; py = t .py; dx = t .dx; dy = t .dy; trailing = t .trailing; enemies = c .enemies; count = c .count; level = c .level; lives = c .lives; dead = t .dead; «won_level» = c .«won_level» }
+applied c t = record {
+  grid = set (c .grid) (t .at) (t .code);
+  px = t .px;
+  py = t .py;
+  dx = t .dx;
+  dy = t .dy;
+  trailing = t .trailing;
+  enemies = c .enemies;
+  count = c .count;
+  level = c .level;
+  lives = c .lives;
+  dead = t .dead;
+  «won_level» = c .«won_level»;
+}
 
 abbrev pub does : Cutter → Step → Cutter
 does c t = cond (t .closes) (closedAt c (t .at)) (applied c t)

@@ -62,7 +62,8 @@ module _ (first second : ℕ) (c : Cutter) (keys draws : List ℕ) (time : ℕ) 
 
   -- quit: no ticks, so no closing
   keyed-accounts : WellFormed c
-      → Accounts c (afterKeys first second time p .passed .game) (cond (not (p .quit) && due .one) (stepClaims (p .game)) 0) (cond (not (p .quit) && due .one) (stepLoses (p .game)) 0)
+      → Accounts c (afterKeys first second time p .passed .game) (cond (not (p .quit) && due .one) (stepClaims (p .game)) 0)
+      (cond (not (p .quit) && due .one) (stepLoses (p .game)) 0)
   unfolding afterKeys
   keyed-accounts w =
       let k = keys-kept c keys w in

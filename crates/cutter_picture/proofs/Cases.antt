@@ -11,7 +11,20 @@ use Rattle.cutter_picture.specs.Picture.{cutLit}
 
 -- claimed ground but for the first cell, the player at (1,0), a creature at (0,0), two lives
 abbrev ground : Cutter
-ground = record { grid = CB-BLACK ∷ replicate (CN - 1) CB-FILLED; px = 1; py = 0; dx = pos 0; dy = pos 0; trailing = false; enemies = replicate 16 (record { x = 0; y = 0; vx = pos 1; vy = pos 1 }); count = 1; level = 1; lives = 2; dead = false; «won_level» = false }
+ground = record {
+  grid = CB-BLACK ∷ replicate (CN - 1) CB-FILLED;
+  px = 1;
+  py = 0;
+  dx = pos 0;
+  dy = pos 0;
+  trailing = false;
+  enemies = replicate 16 (record { x = 0; y = 0; vx = pos 1; vy = pos 1 });
+  count = 1;
+  level = 1;
+  lives = 2;
+  dead = false;
+  «won_level» = false;
+}
 
 pub record Pixels : Type 0 where
   -- a creature is one pixel of its cell

@@ -49,7 +49,8 @@ put l i v c h =
     ⊎-elim (λ e. inl (e, subst (λ (n : ℕ). getD (set l i v) n 0 ≡ v) (sym e) (getD-set-same l i v 0 h)))
     (λ n. inr (n, getD-set-other l i c v 0 n)) (same? c i)
 
-module _ {g seen₀ q₀ : List ℕ} {n s : ℕ} {seen q : List ℕ} {t : ℕ} (m : Mid g seen₀ q₀ n s seen q t) (at : ℕ) (fresh : getD seen at 0 ≡ 0) (j : Joined g s at) (inn : at < length seen) (end : t < length q) where
+module _ {g seen₀ q₀ : List ℕ} {n s : ℕ} {seen q : List ℕ} {t : ℕ} (m : Mid g seen₀ q₀ n s seen q t) (at : ℕ) (fresh : getD seen at 0 ≡ 0) (j : Joined g s at)
+    (inn : at < length seen) (end : t < length q) where
   push-front : (k : ℕ) → k < n → getD (set q t at) k 0 ≡ getD q₀ k 0
   push-front k h = getD-set-other q t k at 0 (λ e. omega (arith, m .begun)) ∙ m .front k h
 
@@ -93,7 +94,8 @@ module _ {g seen₀ q₀ : List ℕ} {n s : ℕ} {seen q : List ℕ} {t : ℕ} (
       let e = tally-lose seen at 0 SEEN inn fresh (λ i. omega arith) in
       omega (arith, m .left-over)
 
-pub visited-mid : {g seen₀ q₀ : List ℕ} {n s : ℕ} {seen q : List ℕ} {t at : ℕ} {seen′ q′ : List ℕ} {t′ : ℕ} → Mid g seen₀ q₀ n s seen q t → (Black g at → Joined g s at) → Visited g seen q t at CB-BLACK seen′ q′ t′ → Mid g seen₀ q₀ n s seen′ q′ t′
+pub visited-mid : {g seen₀ q₀ : List ℕ} {n s : ℕ} {seen q : List ℕ} {t at : ℕ} {seen′ q′ : List ℕ} {t′ : ℕ} → Mid g seen₀ q₀ n s seen q t → (Black g at → Joined g s at)
+    → Visited g seen q t at CB-BLACK seen′ q′ t′ → Mid g seen₀ q₀ n s seen′ q′ t′
 visited-mid {g} {seen₀} {q₀} {n} {s} {seen} {q} {t} {at} {seen′} {q′} {t′} m j (inl p) =
     let r : Room g seen′ q′ t′ CB-BLACK = room-kept (m .room) (inl p) in
     let inn : at < length seen = omega (arith, m .room, black-in g at (holds-black g at (p .holds))) in
@@ -121,13 +123,15 @@ visited-grown {g} {seen} {q} {t} {at} {seen′} {q′} {t′} (inl p) =
 visited-grown {q = q} {q′ = q′} (inr p) =
     record { keep = λ c n. rw (p .marks); front = λ k h. rw (p .queue); more = omega (arith, p .tail) }
 
-pub visited-covers : {g seen q : List ℕ} {t at : ℕ} {seen′ q′ : List ℕ} {t′ : ℕ} → Room g seen q t CB-BLACK → Visited g seen q t at CB-BLACK seen′ q′ t′ → Black g at → getD seen′ at 0 ≡ 0 → ⊥
+pub visited-covers : {g seen q : List ℕ} {t at : ℕ} {seen′ q′ : List ℕ} {t′ : ℕ} → Room g seen q t CB-BLACK → Visited g seen q t at CB-BLACK seen′ q′ t′ → Black g at
+    → getD seen′ at 0 ≡ 0 → ⊥
 visited-covers {g} {seen} {q} {t} {at} r (inl p) k e =
     let inn : at < length seen = omega (arith, r, black-in g at (holds-black g at (p .holds))) in
     omega (arith, ap (λ (l : List ℕ). getD l at 0) (p .marks), getD-set-same seen at SEEN 0 inn)
 visited-covers {g} {at = at} r (inr p) k e = p .why (black-holds g at k) (sym (ap (λ (l : List ℕ). getD l at 0) (p .marks)) ∙ e)
 
-pub grown-trans : {seen₁ q₁ : List ℕ} {t₁ : ℕ} {seen₂ q₂ : List ℕ} {t₂ : ℕ} {seen₃ q₃ : List ℕ} {t₃ : ℕ} → Grown seen₁ q₁ t₁ seen₂ q₂ t₂ → Grown seen₂ q₂ t₂ seen₃ q₃ t₃ → Grown seen₁ q₁ t₁ seen₃ q₃ t₃
+pub grown-trans : {seen₁ q₁ : List ℕ} {t₁ : ℕ} {seen₂ q₂ : List ℕ} {t₂ : ℕ} {seen₃ q₃ : List ℕ} {t₃ : ℕ} → Grown seen₁ q₁ t₁ seen₂ q₂ t₂ → Grown seen₂ q₂ t₂ seen₃ q₃ t₃
+    → Grown seen₁ q₁ t₁ seen₃ q₃ t₃
 grown-trans a b =
     record {
       keep = λ c n. b .keep c (λ e. n (sym (a .keep c n) ∙ e)) ∙ a .keep c n;
@@ -145,7 +149,8 @@ pub record Turned (g seen₀ q₀ : List ℕ) (n s at : ℕ) (seen q : List ℕ)
 stays : {seen q : List ℕ} {t : ℕ} {seen′ q′ : List ℕ} {t′ : ℕ} → Grown seen q t seen′ q′ t′ → (c : ℕ) → (getD seen c 0 ≡ 0 → ⊥) → getD seen′ c 0 ≡ 0 → ⊥
 stays w c n e = n (sym (w .keep c n) ∙ e)
 
-pub around-turned : {g seen₀ q₀ : List ℕ} {n s at : ℕ} {seen q : List ℕ} {t : ℕ} {seen′ q′ : List ℕ} {t′ : ℕ} → Mid g seen₀ q₀ n s seen q t → Joined g s at → Around g seen q t at CB-BLACK seen′ q′ t′ → Turned g seen₀ q₀ n s at seen q t seen′ q′ t′
+pub around-turned : {g seen₀ q₀ : List ℕ} {n s at : ℕ} {seen q : List ℕ} {t : ℕ} {seen′ q′ : List ℕ} {t′ : ℕ} → Mid g seen₀ q₀ n s seen q t → Joined g s at
+    → Around g seen q t at CB-BLACK seen′ q′ t′ → Turned g seen₀ q₀ n s at seen q t seen′ q′ t′
 around-turned {g} {seen₀} {q₀} {n} {s} {at} {seen} {q} {t} {seen′} {q′} {t′} m j a =
     let long = m .room .cells in
     let m₁ : Mid g seen₀ q₀ n s (a .seen₁) (a .q₁) (a .t₁) = visited-mid m (λ k. step j (left-next g long at k) k) (a .first) in
@@ -201,7 +206,8 @@ module _ {g seen₀ q₀ : List ℕ} {n s : ℕ} (r : Ready g seen₀ q₀ n s) 
   pub search-start : Searching g seen₀ q₀ n s (set seen₀ s SEEN) (set q₀ n s) n (n + 1)
   search-start =
       record {
-        mid = visited-mid start-mid (λ k. here k) (inl (record { holds = black-holds g s (r .black); fresh = r .fresh s (here (r .black)); marks = refl; queue = refl; tail = refl }));
+        mid = visited-mid start-mid (λ k. here k)
+            (inl (record { holds = black-holds g s (r .black); fresh = r .fresh s (here (r .black)); marks = refl; queue = refl; tail = refl }));
         first = getD-set-same seen₀ s SEEN 0 (omega (arith, r .len, ready-in));
         begun = omega arith;
         order = omega arith;
@@ -211,7 +217,8 @@ module _ {g seen₀ q₀ : List ℕ} {n s : ℕ} (r : Ready g seen₀ q₀ n s) 
   pub head-joined : {seen q : List ℕ} {head t : ℕ} → Searching g seen₀ q₀ n s seen q head t → head < t → Joined g s (getD q head 0)
   head-joined {head = head} i h = i .mid .theirs head h (i .begun)
 
-  pub search-turn : {seen q : List ℕ} {head t : ℕ} {seen′ q′ : List ℕ} {t′ : ℕ} → Searching g seen₀ q₀ n s seen q head t → head < t → Around g seen q t (getD q head 0) CB-BLACK seen′ q′ t′ → Searching g seen₀ q₀ n s seen′ q′ (head + 1) t′
+  pub search-turn : {seen q : List ℕ} {head t : ℕ} {seen′ q′ : List ℕ} {t′ : ℕ} → Searching g seen₀ q₀ n s seen q head t → head < t
+      → Around g seen q t (getD q head 0) CB-BLACK seen′ q′ t′ → Searching g seen₀ q₀ n s seen′ q′ (head + 1) t′
   search-turn {seen} {q} {head} {t} {seen′} {q′} {t′} i h a =
       let w = around-turned (i .mid) (head-joined i h) a in
       record {
@@ -265,10 +272,21 @@ module _ {g seen₀ q₀ : List ℕ} {n s : ℕ} (r : Ready g seen₀ q₀ n s) 
   undo = set-set seen₀ s SEEN 0 ∙ ap (set seen₀ s) (sym (r .fresh s (here (r .black)))) ∙ set-getD seen₀ s 0
 
 -- another list with the same front
-rebase : {g seen₀ q₀ q₁ : List ℕ} {n s : ℕ} {seen q : List ℕ} {head t : ℕ} → Searching g seen₀ q₀ n s seen q head t → ((k : ℕ) → k < n → getD q₀ k 0 ≡ getD q₁ k 0) → Searching g seen₀ q₁ n s seen q head t
+rebase : {g seen₀ q₀ q₁ : List ℕ} {n s : ℕ} {seen q : List ℕ} {head t : ℕ} → Searching g seen₀ q₀ n s seen q head t → ((k : ℕ) → k < n → getD q₀ k 0 ≡ getD q₁ k 0)
+    → Searching g seen₀ q₁ n s seen q head t
 rebase i f =
     record {
-      mid = record { room = i .mid .room; begun = i .mid .begun; front = λ k h. i .mid .front k h ∙ f k h; theirs = i .mid .theirs; kept = i .mid .kept; marked = i .mid .marked; once = i .mid .once; left-over = i .mid .left-over };
+      mid = record {
+        room = i .mid .room;
+        begun = i .mid .begun;
+        front = λ k h. i .mid .front k h
+            ∙ f k h;
+        theirs = i .mid .theirs;
+        kept = i .mid .kept;
+        marked = i .mid .marked;
+        once = i .mid .once;
+        left-over = i .mid .left-over;
+      };
       first = i .first;
       begun = i .begun;
       order = i .order;

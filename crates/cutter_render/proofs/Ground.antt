@@ -16,7 +16,8 @@ use Rattle.cutter_picture.specs.Picture.{isInk, groundLit}
 use Rattle.cutter_render.specs.CodeDraw.{cellsLit, grounded}
 
 -- two bits, and two more, and two more, and two more
-pairs : (f : ℕ → Bool) → bitOr (bitOr (bitOr (number 2 f) (number 2 (λ k. f (2 + k)) * 2 ^ 2 % 256)) (number 2 (λ k. f (4 + k)) * 2 ^ 4 % 256)) (number 2 (λ k. f (6 + k)) * 2 ^ 6 % 256) ≡ number 8 f
+pairs : (f : ℕ → Bool) → bitOr (bitOr (bitOr (number 2 f) (number 2 (λ k. f (2 + k)) * 2 ^ 2 % 256)) (number 2 (λ k. f (4 + k)) * 2 ^ 4 % 256))
+    (number 2 (λ k. f (6 + k)) * 2 ^ 6 % 256) ≡ number 8 f
 pairs f =
     ap (λ (v : ℕ). bitOr (bitOr v (number 2 (λ k. f (4 + k)) * 2 ^ 4 % 256)) (number 2 (λ k. f (6 + k)) * 2 ^ 6 % 256)) (number-above 2 2 f (omega arith))
     ∙ ap (λ (v : ℕ). bitOr v (number 2 (λ k. f (6 + k)) * 2 ^ 6 % 256)) (number-above 4 2 f (omega arith))
@@ -29,11 +30,17 @@ module _ (g : List ℕ) (p cx : ℕ) (cells : length g ≡ 2048) (hp : p < 8) (h
       number-ext 2 _ _ (λ k l. ap isInk (getD-default g at 0 1 (omega arith) ∙ ap (λ (i : ℕ). getD g i 1) (omega arith)))
 
   pub four-cells : (a b c d : ℕ) → a ≡ p * 4 * 64 + cx → b ≡ a + 64 → c ≡ a + 2 * 64 → d ≡ a + 3 * 64 →
-      bitOr (bitOr (bitOr (number 2 (λ _. isInk (getD g a 0))) (number 2 (λ _. isInk (getD g b 0)) * 2 ^ 2 % 256)) (number 2 (λ _. isInk (getD g c 0)) * 2 ^ 4 % 256)) (number 2 (λ _. isInk (getD g d 0)) * 2 ^ 6 % 256)
+      bitOr (bitOr (bitOr (number 2 (λ _. isInk (getD g a 0))) (number 2 (λ _. isInk (getD g b 0)) * 2 ^ 2 % 256)) (number 2 (λ _. isInk (getD g c 0)) * 2 ^ 4 % 256))
+      (number 2 (λ _. isInk (getD g d 0)) * 2 ^ 6 % 256)
       ≡ number 8 (cellsLit g p cx)
   unfolding number
   four-cells a b c d ea eb ec ed =
-      rw (cell-rows 0 a (omega arith) (omega arith), cell-rows 1 b (omega arith) (omega arith), cell-rows 2 c (omega arith) (omega arith), cell-rows 3 d (omega arith) (omega arith))
+      rw (
+        cell-rows 0 a (omega arith) (omega arith),
+        cell-rows 1 b (omega arith) (omega arith),
+        cell-rows 2 c (omega arith) (omega arith),
+        cell-rows 3 d (omega arith) (omega arith),
+      )
       (pairs (cellsLit g p cx))
 
 -- the two bytes of four cells
@@ -44,7 +51,8 @@ module _ (g : List ℕ) (p cx i : ℕ) (hx : cx < 64) (at : i ≡ p * 128 + 2 * 
   right-byte : number 8 (cellsLit g p cx) ≡ pageByte (groundLit g) (i + 1)
   right-byte = number-ext 8 _ _ (λ j h. ap₂ (λ (x y : ℕ). isInk (cellAt g (place x y))) (omega arith) (omega arith))
 
-  pub both-bytes : (old frame : List ℕ) (b : ℕ) → i + 1 < length old → b ≡ number 8 (cellsLit g p cx) → frame ≡ grounded g i old → set (set frame i b) (i + 1) b ≡ grounded g (p * 128 + 2 * (cx + 1)) old
+  pub both-bytes : (old frame : List ℕ) (b : ℕ) → i + 1 < length old → b ≡ number 8 (cellsLit g p cx) → frame ≡ grounded g i old
+      → set (set frame i b) (i + 1) b ≡ grounded g (p * 128 + 2 * (cx + 1)) old
   both-bytes old frame b h e q =
       let f = pageByte (groundLit g) in
       let n : i + 1 + 1 ≡ p * 128 + 2 * (cx + 1) = omega arith in

@@ -52,12 +52,14 @@ module _ (frame₀ : List ℕ) where
 two : (p : Bool) (px py x y : ℕ) → xor (xor p (columnLit (2 * px) py x y)) (columnLit (2 * px + 1) py x y) ≡ xor p (cellLit px py x y)
 two p px py x y = go p (same? (2 * px) x) (same? (2 * px + 1) x)
   where
-    go : (b : Bool) → (2 * px ≡ x) ⊎ (2 * px ≡ x → ⊥) → (2 * px + 1 ≡ x) ⊎ (2 * px + 1 ≡ x → ⊥) → xor (xor b (columnLit (2 * px) py x y)) (columnLit (2 * px + 1) py x y) ≡ xor b (cellLit px py x y)
+    go : (b : Bool) → (2 * px ≡ x) ⊎ (2 * px ≡ x → ⊥) → (2 * px + 1 ≡ x) ⊎ (2 * px + 1 ≡ x → ⊥)
+        → xor (xor b (columnLit (2 * px) py x y)) (columnLit (2 * px + 1) py x y) ≡ xor b (cellLit px py x y)
     go b (inl e) f = rw (eq-eqb (2 * px) x e, ne-eqb (2 * px + 1) x (λ z. omega arith), eq-eqb px (x / 2) (omega arith)) (xor-false _)
     go b (inr e) (inl f) = rw (ne-eqb (2 * px) x e, eq-eqb (2 * px + 1) x f, eq-eqb px (x / 2) (omega arith), xor-false b)
     go b (inr e) (inr f) = rw (ne-eqb (2 * px) x e, ne-eqb (2 * px + 1) x f, ne-eqb px (x / 2) (λ z. omega arith)) (xor-false _)
 
-pub both-columns : (frame₀ frame : List ℕ) (px py : ℕ) → frame ≡ inverted frame₀ (columnLit (2 * px) py) → inverted frame (columnLit (2 * px + 1) py) ≡ inverted frame₀ (cellLit px py)
+pub both-columns : (frame₀ frame : List ℕ) (px py : ℕ) → frame ≡ inverted frame₀ (columnLit (2 * px) py)
+    → inverted frame (columnLit (2 * px + 1) py) ≡ inverted frame₀ (cellLit px py)
 both-columns frame₀ frame px py e =
     rw e (drawn-pack xor _ _ ∙ pack-ext _ _ (λ x y hx hy. two (pixel frame₀ x y) px py x y))
 

@@ -18,7 +18,8 @@ mover x y vx vy = record { x = x; y = y; vx = vx; vy = vy }
 
 -- the cells, the player in a column of row 1, the slots, so many creatures, a level, lives
 abbrev stateOf : List ℕ → ℕ → List Mover → ℕ → ℕ → ℕ → Cutter
-stateOf g x es n level lives = record { grid = g; px = x; py = 1; dx = pos 0; dy = pos 0; trailing = false; enemies = es; count = n; level = level; lives = lives; dead = false; «won_level» = false }
+stateOf g x es n level lives = record
+    { grid = g; px = x; py = 1; dx = pos 0; dy = pos 0; trailing = false; enemies = es; count = n; level = level; lives = lives; dead = false; «won_level» = false }
 
 abbrev slots : Mover → List Mover
 slots e = replicate MAX-ENEMIES e
@@ -60,4 +61,15 @@ pub record Nearest : Type 0 where
 
 pub nearest : Nearest
 unfolding cellsOk rowsFilled columnsFilled moverOk creaturesOk numbersOk isBlank holdsAt
-nearest = record { hole = refl; lineAlone = refl; trailingAlone = refl; diagonal = refl; right = refl; claimed = refl; still = refl; sixteen = refl; seventeen = refl; fourLives = refl }
+nearest = record {
+  hole = refl;
+  lineAlone = refl;
+  trailingAlone = refl;
+  diagonal = refl;
+  right = refl;
+  claimed = refl;
+  still = refl;
+  sixteen = refl;
+  seventeen = refl;
+  fourLives = refl;
+}

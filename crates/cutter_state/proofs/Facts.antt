@@ -11,7 +11,8 @@ use Rattle.refusal.proofs.Checks.{none-passes, passes-none}
 use Rattle.cutter_ground.specs.Cells.{CN}
 use Rattle.cutter_state.specs.declared.Cutter.{Cutter}
 use Rattle.cutter_state.specs.State.{holdsAt, creatures, spare}
-use Rattle.cutter_state.specs.WellFormed.{MAX-LIVES, MAX-LEVEL, isCode, isTrail, rowsFilled, columnsFilled, cellsOk, footing, directionOk, playerOk, moverOk, isBlank, creaturesOk, numbersOk, wellFormed, refusalOf, WellFormed}
+use Rattle.cutter_state.specs.WellFormed.{MAX-LIVES, MAX-LEVEL, isCode, isTrail, rowsFilled, columnsFilled, cellsOk, footing, directionOk}
+use Rattle.cutter_state.specs.WellFormed.{playerOk, moverOk, isBlank, creaturesOk, numbersOk, wellFormed, refusalOf, WellFormed}
 use Rattle.cutter_ground.specs.Movers.{MAX-ENEMIES}
 
 none-well-formed : (c : Cutter) → refusalOf c ≡ NONE → wellFormed c ≡ true
@@ -69,5 +70,20 @@ accepted c e = facts c (none-well-formed c e)
 pub from-facts : (c : Cutter) → WellFormed c → wellFormed c ≡ true
 unfolding wellFormed cellsOk playerOk creaturesOk numbersOk
 from-facts c w =
-    simp
-    (eq-eqb (length (c .grid)) CN (w .cells), w .codes, w .rows, w .columns, w .line, alike-refl (c .trailing), w .player, w .direction, eq-eqb (length (c .enemies)) MAX-ENEMIES (w .slots), le-leb (c .count) MAX-ENEMIES (w .few), w .each, w .rest, le-leb (c .lives) MAX-LIVES (w .lives), le-leb 1 (c .level) (w .level .0), le-leb (c .level) MAX-LEVEL (w .level .1))
+    simp (
+      eq-eqb (length (c .grid)) CN (w .cells),
+      w .codes,
+      w .rows,
+      w .columns,
+      w .line,
+      alike-refl (c .trailing),
+      w .player,
+      w .direction,
+      eq-eqb (length (c .enemies)) MAX-ENEMIES (w .slots),
+      le-leb (c .count) MAX-ENEMIES (w .few),
+      w .each,
+      w .rest,
+      le-leb (c .lives) MAX-LIVES (w .lives),
+      le-leb 1 (c .level) (w .level .0),
+      le-leb (c .level) MAX-LEVEL (w .level .1),
+    )

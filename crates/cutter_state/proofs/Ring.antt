@@ -45,14 +45,18 @@ module _ (g : List ℕ) where
   pub row-filled : rowsFilled g ≡ true → (x : ℕ) → x < CW → (cellAt g (place x 0) ≡ CB-FILLED) × (cellAt g (place x (CH - 1)) ≡ CB-FILLED)
   unfolding rowsFilled
   row-filled r x h =
-      let t = at-below CW (λ x. claimedAt g (place x 0) && claimedAt g (place x (CH - 1))) r x h in
-      (eqb-true (cellAt g (place x 0)) CB-FILLED (and-left (claimedAt g (place x 0)) (claimedAt g (place x (CH - 1))) t), eqb-true (cellAt g (place x (CH - 1))) CB-FILLED (and-right (claimedAt g (place x 0)) (claimedAt g (place x (CH - 1))) t))
+      let t = at-below CW (λ x. claimedAt g (place x 0) && claimedAt g (place x (CH - 1))) r x h in (
+        eqb-true (cellAt g (place x 0)) CB-FILLED (and-left (claimedAt g (place x 0)) (claimedAt g (place x (CH - 1))) t),
+        eqb-true (cellAt g (place x (CH - 1))) CB-FILLED (and-right (claimedAt g (place x 0)) (claimedAt g (place x (CH - 1))) t),
+      )
 
   pub column-filled : columnsFilled g ≡ true → (y : ℕ) → y < CH → (cellAt g (place 0 y) ≡ CB-FILLED) × (cellAt g (place (CW - 1) y) ≡ CB-FILLED)
   unfolding columnsFilled
   column-filled r y h =
-      let t = at-below CH (λ y. claimedAt g (place 0 y) && claimedAt g (place (CW - 1) y)) r y h in
-      (eqb-true (cellAt g (place 0 y)) CB-FILLED (and-left (claimedAt g (place 0 y)) (claimedAt g (place (CW - 1) y)) t), eqb-true (cellAt g (place (CW - 1) y)) CB-FILLED (and-right (claimedAt g (place 0 y)) (claimedAt g (place (CW - 1) y)) t))
+      let t = at-below CH (λ y. claimedAt g (place 0 y) && claimedAt g (place (CW - 1) y)) r y h in (
+        eqb-true (cellAt g (place 0 y)) CB-FILLED (and-left (claimedAt g (place 0 y)) (claimedAt g (place (CW - 1) y)) t),
+        eqb-true (cellAt g (place (CW - 1) y)) CB-FILLED (and-right (claimedAt g (place 0 y)) (claimedAt g (place (CW - 1) y)) t),
+      )
 
 -- a cell of the grid that isn't claimed lies inside the ring
 pub inside-ring : (g : List ℕ) (x y : ℕ) → rowsFilled g ≡ true → columnsFilled g ≡ true → x < CW → y < CH → (cellAt g (place x y) ≡ CB-FILLED → ⊥) → Inside x y

@@ -43,7 +43,20 @@ sides-right = right-by-test (claimLine lineGrid) sides refl
 
 -- the player under way downwards, in the row y
 abbrev going : Cutter → List ℕ → ℕ → Bool → List Mover → ℕ → Cutter
-going c g y t es n = record { grid = g; px = 32; py = y; dx = pos 0; dy = pos 1; trailing = t; enemies = slots es; count = n; level = c .level; lives = c .lives; dead = c .dead; «won_level» = c .«won_level» }
+going c g y t es n = record {
+  grid = g;
+  px = 32;
+  py = y;
+  dx = pos 0;
+  dy = pos 1;
+  trailing = t;
+  enemies = slots es;
+  count = n;
+  level = c .level;
+  lives = c .lives;
+  dead = c .dead;
+  «won_level» = c .«won_level»;
+}
 
 -- creatures at (10,10) and (50,10)
 abbrev west : ℕ → ℕ → Mover

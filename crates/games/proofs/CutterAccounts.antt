@@ -13,9 +13,12 @@ use Rattle.cutter_keeps.specs.Steps.{Accounts}
 use Rattle.cutter_keeps.proofs.Changes.{kept-self}
 use Rattle.cutter_keeps.proofs.Accounts.{kept-accounts, accounts-then}
 use Rattle.cutter.specs.Calls.{roundCall, levelCall}
-use Rattle.games.specs.CutterCalls.{CutterCall, Round, Level, Direction, Step, StepBySweeps, Tick, Respawn, Report, Begin, Pass, PassMarks, Picture, Question, Play, called, after, goesOn, sum, claims, loses}
+use Rattle.games.specs.CutterCalls.{CutterCall, Round, Level, Direction, Step, StepBySweeps, Tick, Respawn, Report, Begin, Pass, PassMarks}
+use Rattle.games.specs.CutterCalls.{Picture, Question, Play, called, after, goesOn, sum, claims, loses}
 use Rattle.games.specs.CutterAccounts.{CutterAccounts, CutterFormed}
-use Rattle.games.proofs.CutterCalls.{round-fresh, call-fresh, round-refused, level-refused, direction-called, step-called, sweeps-called, tick-called, respawn-called, pass-called, pass-starts, passAt-formed, direction-formed, step-formed, sweeps-formed, tick-formed, respawn-formed}
+use Rattle.games.proofs.CutterCalls.{round-fresh, call-fresh, round-refused, level-refused, direction-called, step-called, sweeps-called}
+use Rattle.games.proofs.CutterCalls.{tick-called, respawn-called, pass-called, pass-starts, passAt-formed, direction-formed, step-formed}
+use Rattle.games.proofs.CutterCalls.{sweeps-formed, tick-formed, respawn-formed}
 
 called-fresh : (p : Play) (k : CutterCall) → called p k .starts ≡ true → Fresh (called p k .play .game)
 unfolding called

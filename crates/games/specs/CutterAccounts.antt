@@ -40,4 +40,5 @@ pub record CutterFormed : Type 0 where
   pub tick : (c : Cutter) → Formed (enemiesCall c)
   pub respawn : (c : Cutter) → Formed (respawnCall c)
   pub pass : (c : Cutter) (keys draws : List ℕ) (time : ℕ) (pace : Pace) → passOf c keys draws time pace .0 .refusal ≡ NONE → WellFormed (passOf c keys draws time pace .0 .game)
-  pub passMarks : (c : Cutter) (keys draws : List ℕ) (time first second : ℕ) → passAt c keys draws time first second .passed .refusal ≡ NONE → WellFormed (passAt c keys draws time first second .passed .game)
+  pub passMarks : (c : Cutter) (keys draws : List ℕ) (time first second : ℕ) → passAt c keys draws time first second .passed .refusal ≡ NONE
+      → WellFormed (passAt c keys draws time first second .passed .game)

@@ -35,4 +35,5 @@ pub record MineFormed : Type 0 where
   pub gravity : (m : Mine) → gravityCall m .refusal ≡ NONE → WellFormed (gravityCall m .game)
   pub tick : (m : Mine) → tickCall m .refusal ≡ NONE → WellFormed (tickCall m .game)
   pub pass : (m : Mine) (keys : List ℕ) (time : ℕ) (pace : Pace) → passOf m keys time pace .0 .refusal ≡ NONE → WellFormed (passOf m keys time pace .0 .game)
-  pub passMarks : (m : Mine) (keys : List ℕ) (time first second : ℕ) → passAt m keys time first second .passed .refusal ≡ NONE → WellFormed (passAt m keys time first second .passed .game)
+  pub passMarks : (m : Mine) (keys : List ℕ) (time first second : ℕ) → passAt m keys time first second .passed .refusal ≡ NONE
+      → WellFormed (passAt m keys time first second .passed .game)

@@ -1,4 +1,5 @@
--- What the host is sure of: a state that it got is never refused for a flag, so a call on it gives what the public call gives; and a call that leaves the game's state leaves the host's, byte for byte. Assumes nothing.
+-- What the host is sure of: a state that it got is never refused for a flag, so a call on it gives what the public call gives; and a call that
+-- leaves the game's state leaves the host's, byte for byte. Assumes nothing.
 use mathlib.Core.Path.{_≡_, refl, ap, _∙_}
 use Prim.Native.Nat.{ℕ}
 use Rattle.refusal.specs.Refusal.{refusedOr}

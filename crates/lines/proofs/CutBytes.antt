@@ -18,7 +18,8 @@ module _ (parted : Bool) (bytes : List ℕ) (i : ℕ) (s : Cutter) (r : CutSaid)
   played-more h {R} p = subst (λ (z : CutSaid). cutAfter parted (z .game) (drop (i + 1) bytes) ≡ R) (sym e) (after-more (cutStep parted) bytes i s h p)
 
   module _ (ns : List ℕ) (d : ns ≡ cutNumbers (r .game)) {at mid : ℕ} {l m : List ℕ} (p : Puts (lineOf (r .says) ns) at l mid m) where
-    pub told-more : i < length bytes → {end : ℕ} {k : List ℕ} → Puts (cutLines parted (r .game) (drop (i + 1) bytes)) mid m end k → Puts (cutLines parted s (drop i bytes)) at l end k
+    pub told-more : i < length bytes → {end : ℕ} {k : List ℕ} → Puts (cutLines parted (r .game) (drop (i + 1) bytes)) mid m end k
+        → Puts (cutLines parted s (drop i bytes)) at l end k
     told-more h {end} {k} q =
         lines-more (cutStep parted) (cutLine parted) bytes i s h
         (subst (λ (z : CutSaid). Puts (lineOf (z .says) (cutNumbers (z .game))) at l mid m) e (subst (λ (z : List ℕ). Puts (lineOf (r .says) z) at l mid m) d p))

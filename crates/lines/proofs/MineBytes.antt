@@ -18,7 +18,8 @@ module _ (parted : Bool) (bytes : List ℕ) (i : ℕ) (s : Mine) (r : MineSaid) 
   played-more h {R} p = subst (λ (z : MineSaid). mineAfter parted (z .game) (drop (i + 1) bytes) ≡ R) (sym e) (after-more (mineStep parted) bytes i s h p)
 
   module _ (ns : List ℕ) (d : ns ≡ mineNumbers (r .game)) {at mid : ℕ} {l m : List ℕ} (p : Puts (lineOf (r .says) ns) at l mid m) where
-    pub told-more : i < length bytes → {end : ℕ} {k : List ℕ} → Puts (mineLines parted (r .game) (drop (i + 1) bytes)) mid m end k → Puts (mineLines parted s (drop i bytes)) at l end k
+    pub told-more : i < length bytes → {end : ℕ} {k : List ℕ} → Puts (mineLines parted (r .game) (drop (i + 1) bytes)) mid m end k
+        → Puts (mineLines parted s (drop i bytes)) at l end k
     told-more h {end} {k} q =
         lines-more (mineStep parted) (mineLine parted) bytes i s h
         (subst (λ (z : MineSaid). Puts (lineOf (z .says) (mineNumbers (z .game))) at l mid m) e (subst (λ (z : List ℕ). Puts (lineOf (r .says) z) at l mid m) d p))

@@ -27,10 +27,12 @@ module _ {S : Type 0} (step : S → ℕ → S) where
     pub lines-both : (s : S) (bs cs : List ℕ) → linesOf step line s (bs ++ cs) ≡ linesOf step line s bs ++ linesOf step line (after step s bs) cs
     unfolding after linesOf
     lines-both s [] cs = refl
-    lines-both s (b ∷ bs) cs = ap (λ (t : List ℕ). line s b ++ t) (lines-both (step s b) bs cs) ∙ sym (append-assoc (line s b) (linesOf step line (step s b) bs) (linesOf step line (after step (step s b) bs) cs))
+    lines-both s (b ∷ bs) cs = ap (λ (t : List ℕ). line s b ++ t) (lines-both (step s b) bs cs)
+        ∙ sym (append-assoc (line s b) (linesOf step line (step s b) bs) (linesOf step line (after step (step s b) bs) cs))
 
     module _ (bytes : List ℕ) (i : ℕ) (s : S) {at : ℕ} {l : List ℕ} where
-      pub lines-more : i < length bytes → {mid end : ℕ} {m k : List ℕ} → Puts (line s (getD bytes i 0)) at l mid m → Puts (linesOf step line (step s (getD bytes i 0)) (drop (i + 1) bytes)) mid m end k → Puts (linesOf step line s (drop i bytes)) at l end k
+      pub lines-more : i < length bytes → {mid end : ℕ} {m k : List ℕ} → Puts (line s (getD bytes i 0)) at l mid m
+          → Puts (linesOf step line (step s (getD bytes i 0)) (drop (i + 1) bytes)) mid m end k → Puts (linesOf step line s (drop i bytes)) at l end k
       unfolding linesOf
       lines-more h p q = rw (drop-one bytes i 0 h) (puts-both p q)
 

@@ -18,7 +18,8 @@ module _ (s : Mine) (keys : List ℕ) (i : ℕ) {R : Played Mine} where
   unfolding playedBy
   keys-more h e n = rw (h, n) at e
 
-  pub keys-turn : {key : ℕ} {s′ : Mine} → drop i keys ≡ key ∷ drop (i + 1) keys → played s (drop i keys) ≡ R → eqb key KEY-QUIT ≡ false → keyed s key ≡ s′ → played s′ (drop (i + 1) keys) ≡ R
+  pub keys-turn : {key : ℕ} {s′ : Mine} → drop i keys ≡ key ∷ drop (i + 1) keys → played s (drop i keys) ≡ R → eqb key KEY-QUIT ≡ false → keyed s key ≡ s′
+      → played s′ (drop (i + 1) keys) ≡ R
   keys-turn h e n q = subst (λ (m : Mine). played m (drop (i + 1) keys) ≡ R) q (keys-more h e n)
 
   pub keys-quit : {key : ℕ} → drop i keys ≡ key ∷ drop (i + 1) keys → played s (drop i keys) ≡ R → eqb key KEY-QUIT ≡ true → record { quit = true; game = s } ≡ R
@@ -30,7 +31,9 @@ module _ (s : Mine) (keys : List ℕ) (i : ℕ) {R : Played Mine} where
   keys-end h e = rw h at e
 
 -- a key by its direction
-by-ways : (m : Mine) (a b c e : Bool) → cond a (moved m UP) (cond b (moved m DOWN) (cond c (moved m LEFT) (cond e (moved m RIGHT) m))) ≡ cond (ltb (cond a UP (cond b DOWN (cond c LEFT (cond e RIGHT 4)))) 4) (moved m (cond a UP (cond b DOWN (cond c LEFT (cond e RIGHT 4))))) m
+by-ways : (m : Mine) (a b c e : Bool)
+    → cond a (moved m UP) (cond b (moved m DOWN) (cond c (moved m LEFT) (cond e (moved m RIGHT) m)))
+    ≡ cond (ltb (cond a UP (cond b DOWN (cond c LEFT (cond e RIGHT 4)))) 4) (moved m (cond a UP (cond b DOWN (cond c LEFT (cond e RIGHT 4))))) m
 by-ways m true b c e = refl
 by-ways m false true c e = refl
 by-ways m false false true e = refl

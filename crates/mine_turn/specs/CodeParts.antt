@@ -31,4 +31,5 @@ Keyed g xs ys n p key g′ r = (f : List Bool) (ds : List ℕ) → length ds ≡
 
 -- and all keys
 abbrev pub Plays : List ℕ → List ℕ → List ℕ → ℕ → Player → List ℕ → List ℕ → Pressed → Type 0
-Plays g xs ys n p keys g′ r = (f : List Bool) (ds : List ℕ) → length ds ≡ MAX-ENEMIES → played (playing f g (joined xs ys ds) n p) keys ≡ record { quit = r .quit; game = playing f g′ (joined xs ys ds) n (r .player) }
+Plays g xs ys n p keys g′ r = (f : List Bool) (ds : List ℕ) → length ds ≡ MAX-ENEMIES
+    → played (playing f g (joined xs ys ds) n p) keys ≡ record { quit = r .quit; game = playing f g′ (joined xs ys ds) n (r .player) }

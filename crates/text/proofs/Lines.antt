@@ -17,13 +17,15 @@ number-ends n p = omega (arith, p .ends, length-decimal DIGITS n)
 
 module _ (ns : List ℕ) where
   -- the first number, and the rest of the line
-  pub first-then : 0 < length ns → {at mid end : ℕ} {l m k : List ℕ} → Puts (decimal (getD ns 0 0)) at l mid m → Puts (further (drop 1 ns)) mid m end k → Puts (numbersLine ns) at l end k
+  pub first-then : 0 < length ns → {at mid end : ℕ} {l m k : List ℕ} → Puts (decimal (getD ns 0 0)) at l mid m → Puts (further (drop 1 ns)) mid m end k
+      → Puts (numbersLine ns) at l end k
   unfolding numbersLine
   first-then h p q = rw (drop-one ns 0 0 h) (puts-both p q)
 
   module _ (i at : ℕ) (l : List ℕ) (room : at < length l) where
     -- a space and a number, and the rest of the line
-    pub one-more : i < length ns → {mid end : ℕ} {m k : List ℕ} → Puts (decimal (getD ns i 0)) (at + 1) (set l at SPACE) mid m → Puts (further (drop (i + 1) ns)) mid m end k → Puts (further (drop i ns)) at l end k
+    pub one-more : i < length ns → {mid end : ℕ} {m k : List ℕ} → Puts (decimal (getD ns i 0)) (at + 1) (set l at SPACE) mid m
+        → Puts (further (drop (i + 1) ns)) mid m end k → Puts (further (drop i ns)) at l end k
     unfolding further
     one-more h p q = rw (drop-one ns i 0 h) (puts-both (puts-byte l at SPACE room) (puts-both p q))
 

@@ -17,7 +17,12 @@ puts-start at l = rw add-zero (puts-none at l)
 
 pub puts-both : {s t : List ℕ} {at mid end : ℕ} {l m n : List ℕ} → Puts s at l mid m → Puts t mid m end n → Puts (s ++ t) at l end n
 puts-both {s} {t} {at} {mid} {end} {l} p q =
-    record { ends = simp length-append (omega (arith, p .ends, q .ends)); size = q .size ∙ p .size; holds = q .holds ∙ ap (λ (x : List ℕ). x ++ t) (p .holds) ∙ append-assoc (take at l) s t }
+    record {
+      ends = simp length-append (omega (arith, p .ends, q .ends));
+      size = q .size ∙ p .size;
+      holds = q .holds ∙ ap (λ (x : List ℕ). x ++ t) (p .holds)
+          ∙ append-assoc (take at l) s t;
+    }
 
 -- a byte stored at the end
 pub puts-byte : (l : List ℕ) (at b : ℕ) → at < length l → Puts (b ∷ []) at l (at + 1) (set l at b)
@@ -27,7 +32,8 @@ puts-byte l at b h = record { ends = refl; size = length-set l at b; holds = rw 
 pub puts-more : (bytes l : List ℕ) (at i : ℕ) {m : List ℕ} → i < length bytes → at + i < length l
     → Puts (take i bytes) at l (at + i) m → Puts (take (i + 1) bytes) at l (at + (i + 1)) (set m (at + i) (getD bytes i 0))
 puts-more bytes l at i {m} h r p =
-    let q : Puts (take i bytes ++ getD bytes i 0 ∷ []) at l (at + i + 1) (set m (at + i) (getD bytes i 0)) = puts-both p (puts-byte m (at + i) (getD bytes i 0) (omega (arith, p .size))) in
+    let q : Puts (take i bytes ++ getD bytes i 0 ∷ []) at l (at + i + 1) (set m (at + i) (getD bytes i 0)) = puts-both p
+    (puts-byte m (at + i) (getD bytes i 0) (omega (arith, p .size))) in
     rw (add-one i, take-suc bytes i 0, ← add-one i) (subst (λ (k : ℕ). Puts (take i bytes ++ getD bytes i 0 ∷ []) at l k (set m (at + i) (getD bytes i 0))) (add-assoc at i 1) q)
 
 -- all of them

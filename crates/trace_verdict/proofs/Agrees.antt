@@ -66,11 +66,17 @@ unfolding placed
 no-placed n i e = no-place (ltb i (n - RECORD)) i (i - (n - RECORD)) e
 
 -- an entry that is found the same agrees in every part
-pub agrees : (h : Head) (current state result : List ℕ) (refusal answer : ℕ) (ours told : List ℕ) → compared h current state result refusal answer ours told ≡ Same → Agrees h current state result refusal answer ours told
+pub agrees : (h : Head) (current state result : List ℕ) (refusal answer : ℕ) (ours told : List ℕ) → compared h current state result refusal answer ours told ≡ Same
+    → Agrees h current state result refusal answer ours told
 unfolding compared
 agrees h current state result refusal answer ours told e =
     let a : (eqb (h .refusal) refusal ≡ true) × _ = chosen (eqb (h .refusal) refusal) no-refusal e in
     let b : (eqb (h .answer) answer ≡ true) × _ = chosen (eqb (h .answer) answer) no-answer (a .1) in
     let c : (firstDifference (theirs current state) ours ≡ Nowhere) × _ = no-difference (firstDifference (theirs current state) ours) (no-placed (length ours)) (b .1) in
     let d : (firstDifference result told ≡ Nowhere) × _ = no-difference (firstDifference result told) no-result (passed (rewritten current state) (no-state 0) (c .1)) in
-    record { refusals = eqb-true (h .refusal) refusal (a .0); answers = eqb-true (h .answer) answer (b .0); states = same-runs (theirs current state) ours (c .0); results = same-runs result told (d .0) }
+    record {
+      refusals = eqb-true (h .refusal) refusal (a .0);
+      answers = eqb-true (h .answer) answer (b .0);
+      states = same-runs (theirs current state) ours (c .0);
+      results = same-runs result told (d .0);
+    }

@@ -39,7 +39,8 @@ module _ {A : Type 0} (f : A → List ℕ) where
   flat-more l i d h = ap (λ (x : List ℕ). flat f (take i l) ++ x) (sym (flat-one (getD l i d))) ∙ sym (flat-append (take i l) (getD l i d ∷ [])) ∙ ap (flat f) (take-more l i d h)
 
   -- one element of k bytes more
-  pub slots-more : (l : List A) (i k : ℕ) (d : A) {at : ℕ} {b m n : List ℕ} → i < length l → Lays (flat f (take i l)) (i * k) at b m → Lays (f (getD l i d)) k (at + i * k) m n → Lays (flat f (take (i + 1) l)) ((i + 1) * k) at b n
+  pub slots-more : (l : List A) (i k : ℕ) (d : A) {at : ℕ} {b m n : List ℕ} → i < length l → Lays (flat f (take i l)) (i * k) at b m
+      → Lays (f (getD l i d)) k (at + i * k) m n → Lays (flat f (take (i + 1) l)) ((i + 1) * k) at b n
   slots-more l i k d h p q = lays-as (flat-more l i d h) (omega arith) (lays-both p q)
 
   pub slots-end : (l : List A) (i n k : ℕ) {at : ℕ} {b m : List ℕ} → length l ≤ i → i * k ≡ n → Lays (flat f (take i l)) (i * k) at b m → Lays (flat f l) n at b m

@@ -26,10 +26,7 @@ loop-less c = omega arith
 loop-again : tie.Need-loop-again Inv-loop μ-loop
 loop-again c = omega arith
 
-returns : tie.Need-returns Inv-loop μ-loop
-returns c = search needs
-
 pub put-frame-spec : {M : Type 1} → statement M
 put-frame-spec =
     tie.close
-    (tie.spec Inv-loop μ-loop loop-holds put-line-requires add-y loop-less loop-again returns)
+    (tie.spec Inv-loop μ-loop loop-holds put-line-requires add-y loop-less loop-again (λ c. search needs))

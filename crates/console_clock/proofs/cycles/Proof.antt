@@ -20,21 +20,9 @@ wraps sec p =
     let e : sec * SECOND + p ≡ q * WRAP + r = omega arith in
     rw e (sym (digits-mod q below))
 
-mul-whole : tie.Need-mul-whole
-mul-whole c = search needs
-
-mul-part : tie.Need-mul-part
-mul-part c = search needs
-
-add-result : tie.Need-add-result
-add-result c = search needs
-
-cast-result : tie.Need-cast-result
-cast-result c = search needs
-
 returns : tie.Need-returns
 unfolding cyclesOf
 returns c = wraps _ _
 
 pub cycles-spec : {M : Type 1} → statement M
-cycles-spec = tie.close (tie.spec mul-whole mul-part add-result cast-result returns)
+cycles-spec = tie.close (tie.spec (λ c. search needs) (λ c. search needs) (λ c. search needs) (λ c. search needs) returns)

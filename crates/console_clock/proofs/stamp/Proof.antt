@@ -1,4 +1,5 @@
--- `console_clock::stamp` is safe: a walk of its MIR, by hand. The time is made in a local, lent to `clock_gettime` for a lifetime that is made here, taken back and answered. Assumes nothing.
+-- `console_clock::stamp` is safe: a walk of its MIR, by hand. The time is made in a local, lent to `clock_gettime` for a lifetime that is made here,
+-- taken back and answered. Assumes nothing.
 use mathlib.Core.Path.{_≡_, refl, ap}
 use Prim.Native.Nat.{ℕ, _<_, _^_}
 use mathlib.Core.List.{[], _∷_, List}
@@ -17,7 +18,8 @@ use prog.Wp.{Heap, Calls, Loops, WpFn, Tables}
 use ghost.Atoms.{Atoms, sem}
 use contract.Monad.{Fun, fact}
 use contract.Running.{givenOf, tables, tablesOf}
-use types.Kit.{Given, ‵, raw, some, given, later, _⊛_, _$_, _∵_, !, qed, by, move, keep, drop, use1, use2, use3, split, join, pick, learn, check, rewrite, fsplit, fjoin, suffices, frame, await, show, done}
+use types.Kit.{Given, ‵, raw, some, given, later, _⊛_, _$_, _∵_, !, qed, by, move, keep, drop, use1, use2, use3, split, join, pick, learn, check}
+use types.Kit.{rewrite, fsplit, fjoin, suffices, frame, await, show, done}
 use types.Tokens.{lft-new, lft-end}
 use types.Run.{look, init, forget, stop, from, load, lit, of-opd, addr, and-then, no-more, assigns, land, returns, enter, alloc1, alloc0, params1, pass0, free1, free0}
 use types.Part.{agg}
@@ -95,14 +97,16 @@ module _ {M : Type 1} (𝓤 : URA M) (H : Heap 𝓤) (A : Atoms 𝓤) (W : Given
 
     goes : ent 𝓤 (sep 𝓤 (A .lft (α ∷ []) fullShare) (sem 𝓤 H A Ref)) (Gettime 𝓤 H A at-mem run .pre to)
     goes =
-        qed W (‵ (flft (α ∷ []) fullShare) ∷ ‵ Ref ∷ []) ∵ nothing ! $ move ! (2 ∷ 0 ∷ []) $ fjoin ! $ owned ! i32 (Is i32) (sint-makes 𝓤 H A W w32) MONOTONIC _ (refl, one-fits) $ fjoin ! $
+        qed W (‵ (flft (α ∷ []) fullShare) ∷ ‵ Ref ∷ []) ∵ nothing ! $ move ! (2 ∷ 0 ∷ []) $ fjoin ! $
+        owned ! i32 (Is i32) (sint-makes 𝓤 H A W w32) MONOTONIC _ (refl, one-fits) $ fjoin ! $
         nothing ! $ move ! (2 ∷ 0 ∷ []) $ join ! $ join ! $ frame ! $ done !
 
     -- what the call leaves in the time
     gives : (r : ℤ) → ent 𝓤 (ensured 𝓤 H A gettime.ended (gettime.clauses 𝓤 H A at-mem run) (α ∷ [], tt) args tt r) (ex 𝓤 (λ (t : timespec). A .res γ (T.the-row .coded .code t)))
     gives r =
         qed W (raw (ensured 𝓤 H A gettime.ended (gettime.clauses 𝓤 H A at-mem run) (α ∷ [], tt) args tt r) ∷ []) ∵
-        use1 W (some (λ (zs : Unit {0} × (timespec × Unit {0})). ‵ (lasts gettime.ended (α ∷ [], tt) args zs) ⊛ raw (gettime.clauses 𝓤 H A at-mem run (α ∷ [], tt) args .ensures tt r (atExit gettime.ended (α ∷ [], tt) args zs)))) (id⊢ 𝓤 _) $ pick ! (λ zs.
+        use1 W (some (λ (zs : Unit {0} × (timespec × Unit {0})). ‵ (lasts gettime.ended (α ∷ [], tt) args zs) ⊛ raw
+        (gettime.clauses 𝓤 H A at-mem run (α ∷ [], tt) args .ensures tt r (atExit gettime.ended (α ∷ [], tt) args zs)))) (id⊢ 𝓤 _) $ pick ! (λ zs.
         split ! $ fsplit ! $ drop ! $ fsplit ! $ show ! (λ (t : timespec). A .res γ (T.the-row .coded .code t)) (zs .1 .0) $ keep ! (0 ∷ []) $ done !)
 
   module _ (C : Calls 𝓤 H) (Λ : Loops 𝓤 H) (fm : FmC 𝓤 H (W .laws) C) (known : Triple 𝓤 (C #gettime) (Gettime 𝓤 H A at-mem run)) where
@@ -110,15 +114,18 @@ module _ {M : Type 1} (𝓤 : URA M) (H : Heap 𝓤) (A : Atoms 𝓤) (W : Given
     walk =
         qed W (‵ ftrue ∷ ‵ ftrue ∷ []) ∵ drop ! $ drop ! $
         enter ! C Λ code.function [] _ $ alloc1 ! (λ l₀. alloc1 ! (λ l₁. alloc1 ! (λ l₂. alloc1 ! (λ l₃. alloc0 ! $ params1 ! $ pass0 ! $
-        assigns ! (agg ! (and-then ! (lit ! tt) (and-then ! (lit ! tt) (no-more !)))) (from ! (stop !)) (init ! 4 refl (LL.lawful T.the-type T′.the-laws 𝓤 H A W .typed none _ none-is .0)) $
+        assigns ! (agg ! (and-then ! (lit ! tt) (and-then ! (lit ! tt) (no-more !)))) (from ! (stop !))
+        (init ! 4 refl (LL.lawful T.the-type T′.the-laws 𝓤 H A W .typed none _ none-is .0)) $
         assigns ! (addr ! (from ! (stop !))) (from ! (stop !)) (init ! 0 refl (tt, tt)) $
         lft-new ! tt (λ α. move ! (5 ∷ []) $
         use1 W (later (some (λ (γ : GName). ‵ (Ref l₁ α γ) ⊛ ‵ (Loan l₁ α γ)))) (lends-time 𝓤 H A W none l₁ (α ∷ []) (named 0) none-is) $ await ! tt $ pick ! (λ γ. split ! $
         -- [the reference; the loan; its token; _3; …; _2; …; what frees _1; _0; …]
         move ! (2 ∷ 0 ∷ []) $ use2 W (raw (Gettime 𝓤 H A at-mem run .pre (to l₁ α γ))) (goes l₁ α γ) $
         calls-at ! fm (Gettime 𝓤 H A at-mem run) known (to l₁ α γ) (and-then ! (lit ! tt) (and-then ! (load ! (from ! (stop !)) (look ! 2 refl)) (no-more !))) (λ u.
-        use1 W (later (some (λ (r : ℤ). ((‵ (flft (α ∷ []) fullShare) ⊛ ‵ ftrue) ⊛ ‵ (i32 .own r (u ∷ []))) ⊛ raw (ensured 𝓤 H A gettime.ended (gettime.clauses 𝓤 H A at-mem run) (α ∷ [], tt) (args l₁ α γ) tt r)))) (id⊢ 𝓤 _) $ await ! tt $ pick ! (λ r.
-        split ! $ move ! (1 ∷ []) $ use1 W (some (λ (t : timespec). ‵ (fres γ (T.the-row .coded .code t)))) (gives l₁ α γ r) $ pick ! (λ t. move ! (1 ∷ []) $ split ! $ move ! (1 ∷ []) $
+        use1 W (later (some (λ (r : ℤ). ((‵ (flft (α ∷ []) fullShare) ⊛ ‵ ftrue) ⊛ ‵ (i32 .own r (u ∷ []))) ⊛ raw
+        (ensured 𝓤 H A gettime.ended (gettime.clauses 𝓤 H A at-mem run) (α ∷ [], tt) (args l₁ α γ) tt r)))) (id⊢ 𝓤 _) $ await ! tt $ pick ! (λ r.
+        split ! $ move ! (1 ∷ []) $ use1 W (some (λ (t : timespec). ‵ (fres γ (T.the-row .coded .code t)))) (gives l₁ α γ r) $
+        pick ! (λ t. move ! (1 ∷ []) $ split ! $ move ! (1 ∷ []) $
         peeks ! i32 (Is i32) (shows 𝓤 H A i32) r (u ∷ []) (λ is. drop ! $
         -- [the token; what the time holds last; the loan; _3; …; _2; …]
         land ! (from ! (stop !)) (init ! 5 refl (sint-lawful 𝓤 H A W w32 .typed r _ is .0)) $ split ! $ lft-end ! tt $ move ! (0 ∷ 3 ∷ 2 ∷ []) $
@@ -126,18 +133,22 @@ module _ {M : Type 1} (𝓤 : URA M) (H : Heap 𝓤) (A : Atoms 𝓤) (W : Given
         -- [_1; true; _3; …; _2; …; what frees _1; _0; …]
         assigns ! (of-opd ! (load ! (from ! (stop !)) (look ! 0 refl))) (from ! (stop !)) (init ! 7 refl (LL.lawful T.the-type T′.the-laws 𝓤 H A W .typed t _ g .0)) $
         returns ! (look ! 7 refl) $ forget ! 0 refl $ forget ! 2 refl $ forget ! 4 refl $ forget ! 7 refl $
-        move ! (7 ∷ 8 ∷ []) $ free1 ! $ move ! (0 ∷ 6 ∷ []) $ free1 ! $ move ! (3 ∷ 4 ∷ []) $ free1 ! $ move ! (1 ∷ 2 ∷ []) $ free1 ! $ free0 ! $ drop ! $ by ! (exits t g))))))))))))
+        move ! (7 ∷ 8 ∷ []) $ free1 ! $ move ! (0 ∷ 6 ∷ []) $ free1 ! $ move ! (3 ∷ 4 ∷ []) $ free1 ! $ move ! (1 ∷ 2 ∷ []) $ free1 ! $ free0 ! $ drop ! $
+        by ! (exits t g))))))))))))
 
 module _ {M : Type 1} (𝓤 : URA M) (H : Heap 𝓤) (A : Atoms 𝓤) (W : Given 𝓤 H A) (mem : Memory → SProp 𝓤) (run : Routine → Fun 𝓤) where
-  stamp-walks : (C : Calls 𝓤 H) (Λ : Loops 𝓤 H) → FmC 𝓤 H (W .laws) C → Triple 𝓤 (C #gettime) (Gettime 𝓤 H A mem run) → Walks 𝓤 H A stamp.ended stayed (WpFn 𝓤 H C Λ code.function) (stamp.clauses 𝓤 H A mem run)
+  stamp-walks : (C : Calls 𝓤 H) (Λ : Loops 𝓤 H) → FmC 𝓤 H (W .laws) C → Triple 𝓤 (C #gettime) (Gettime 𝓤 H A mem run)
+      → Walks 𝓤 H A stamp.ended stayed (WpFn 𝓤 H C Λ code.function) (stamp.clauses 𝓤 H A mem run)
   stamp-walks C Λ fm known = walked 𝓤 H A stamp.ended stayed (stamp.clauses 𝓤 H A mem run) (WpFn 𝓤 H C Λ code.function) (λ κs. tt) (λ κs. tt)
       (λ κs qs bounds a g are. via 𝓤 _ (fst∗ 𝓤 _ (emp 𝓤)) (walk 𝓤 H A W mem run C Λ fm known))
 
-stamp-meets : {M : Type 1} (𝓤 : URA M) (H : Heap 𝓤) (A : Atoms 𝓤) → Given 𝓤 H A → (mem : Memory → SProp 𝓤) (run : Routine → Fun 𝓤) (𝓣 : Tables 𝓤 H) → Triple 𝓤 (𝓣 .C #gettime) (Gettime 𝓤 H A mem run)
+stamp-meets : {M : Type 1} (𝓤 : URA M) (H : Heap 𝓤) (A : Atoms 𝓤) → Given 𝓤 H A → (mem : Memory → SProp 𝓤) (run : Routine → Fun 𝓤) (𝓣 : Tables 𝓤 H)
+    → Triple 𝓤 (𝓣 .C #gettime) (Gettime 𝓤 H A mem run)
     → Meets 𝓤 H A stamp.signature (WpFn 𝓤 H (𝓣 .C) (𝓣 .Λ) code.function) (stamp.spec 𝓤 H A mem run)
 stamp-meets 𝓤 H A W mem run 𝓣 known =
     walk-meets 𝓤 H A stamp.ended stayed W tt
-    (stamp.clauses 𝓤 H A mem run) (WpFn 𝓤 H (𝓣 .C) (𝓣 .Λ) code.function) (WpFn-mono 𝓤 H (W .laws) 𝓣 code.function) (stamp-walks 𝓤 H A W mem run (𝓣 .C) (𝓣 .Λ) (fmOf 𝓤 H (W .laws) 𝓣) known)
+    (stamp.clauses 𝓤 H A mem run) (WpFn 𝓤 H (𝓣 .C) (𝓣 .Λ) code.function) (WpFn-mono 𝓤 H (W .laws) 𝓣 code.function)
+    (stamp-walks 𝓤 H A W mem run (𝓣 .C) (𝓣 .Λ) (fmOf 𝓤 H (W .laws) 𝓣) known)
 
 pub stamp-spec : {M : Type 1} → stated.statement M
 unfolding code.routine tablesOf

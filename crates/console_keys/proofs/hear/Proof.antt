@@ -12,28 +12,14 @@ use Rattle.console_keys.proofs.hear.Tie as tie
 
 abbrev Inv-loop : tie.InvT-loop
 Inv-loop waits bytes₀ open₀ i₀ bytes «open» i =
-    (i ≤ length bytes₀) × (length bytes ≡ length bytes₀) × (take i bytes ++ keysOf «open» (drop i bytes) ≡ keysOf waits bytes₀) × (waitsOf «open» (drop i bytes) ≡ waitsOf waits bytes₀)
+    (i ≤ length bytes₀) × (length bytes ≡ length bytes₀) × (take i bytes ++ keysOf «open» (drop i bytes) ≡ keysOf waits bytes₀) ×
+    (waitsOf «open» (drop i bytes) ≡ waitsOf waits bytes₀)
 
 abbrev μ-loop : tie.MeasureT-loop
 μ-loop waits bytes₀ open₀ i₀ bytes «open» i = length bytes₀ - i
 
 loop-holds : tie.Need-loop-holds Inv-loop μ-loop
 loop-holds c = (omega arith, refl, refl, refl)
-
-slice-read-b : tie.Need-slice-read-b Inv-loop μ-loop
-slice-read-b c = search needs
-
-heard-key-requires : tie.Need-heard-key-requires Inv-loop μ-loop
-heard-key-requires c κs = search needs
-
-slice-write-bytes : tie.Need-slice-write-bytes Inv-loop μ-loop
-slice-write-bytes c = search needs
-
-waits-after-requires : tie.Need-waits-after-requires Inv-loop μ-loop
-waits-after-requires c κs = search needs
-
-add-i : tie.Need-add-i Inv-loop μ-loop
-add-i c = search needs
 
 loop-less : tie.Need-loop-less Inv-loop μ-loop
 loop-less c = omega arith
@@ -42,11 +28,13 @@ loop-again : tie.Need-loop-again Inv-loop μ-loop
 loop-again c =
     let s = c .before .before .before .before .loop in
     let h : s .i < length (s .bytes) = omega (arith, s .inv .1) in
-    let e = c .before .heard-key .ensures in
-    (omega arith, length-set (s .bytes) (s .i) _ ∙ s .inv .1, rw (e, c .waits-after .ensures) (keys-more (s .bytes) (s .i) (s .«open») h (s .inv .2)), rw (e, c .waits-after .ensures) (waits-more (s .bytes) (s .i) (s .«open») h _ (s .inv .3)))
-
-same-length : tie.Need-same-length Inv-loop μ-loop
-same-length c = search needs
+    let e = c .before .heard-key .ensures in (
+      omega arith,
+      length-set (s .bytes) (s .i) _
+          ∙ s .inv .1,
+      rw (e, c .waits-after .ensures) (keys-more (s .bytes) (s .i) (s .«open») h (s .inv .2)),
+      rw (e, c .waits-after .ensures) (waits-more (s .bytes) (s .i) (s .«open») h _ (s .inv .3)),
+    )
 
 returns : tie.Need-returns Inv-loop μ-loop
 returns c =
@@ -61,12 +49,12 @@ hear-spec =
     Inv-loop
     μ-loop
     loop-holds
-    slice-read-b
-    heard-key-requires
-    slice-write-bytes
-    waits-after-requires
-    add-i
+    (λ c. search needs)
+    (λ c κs. search needs)
+    (λ c. search needs)
+    (λ c κs. search needs)
+    (λ c. search needs)
     loop-less
     loop-again
-    same-length
+    (λ c. search needs)
     returns)

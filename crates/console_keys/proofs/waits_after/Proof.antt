@@ -22,11 +22,23 @@ returns-4 c = simp (ne-eqb _ _ (c .before .before .before .if1 .left), ne-eqb _ 
 
 returns-5 : tie.Need-returns-5
 unfolding waitsAfter
-returns-5 c = simp (ne-eqb _ _ (c .before .before .before .before .if1 .left), ne-eqb _ _ (c .before .before .before .if2 .left), eq-eqb _ _ (c .before .before .if4 .taken), ne-eqb _ _ (c .before .if5 .left), eq-eqb _ _ (c .if6 .taken))
+returns-5 c = simp (
+  ne-eqb _ _ (c .before .before .before .before .if1 .left),
+  ne-eqb _ _ (c .before .before .before .if2 .left),
+  eq-eqb _ _ (c .before .before .if4 .taken),
+  ne-eqb _ _ (c .before .if5 .left),
+  eq-eqb _ _ (c .if6 .taken),
+)
 
 returns-6 : tie.Need-returns-6
 unfolding waitsAfter
-returns-6 c = simp (ne-eqb _ _ (c .before .before .before .before .if1 .left), ne-eqb _ _ (c .before .before .before .if2 .left), eq-eqb _ _ (c .before .before .if4 .taken), ne-eqb _ _ (c .before .if5 .left), ne-eqb _ _ (c .if6 .left))
+returns-6 c = simp (
+  ne-eqb _ _ (c .before .before .before .before .if1 .left),
+  ne-eqb _ _ (c .before .before .before .if2 .left),
+  eq-eqb _ _ (c .before .before .if4 .taken),
+  ne-eqb _ _ (c .before .if5 .left),
+  ne-eqb _ _ (c .if6 .left),
+)
 
 returns-7 : tie.Need-returns-7
 unfolding waitsAfter

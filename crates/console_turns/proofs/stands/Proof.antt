@@ -5,9 +5,6 @@ use borrow.Author.Needs.{needs}
 use Rattle.console_turns.proofs.stands.Statement.{statement}
 use Rattle.console_turns.proofs.stands.Tie as tie
 
-number-requires : tie.Need-number-requires
-number-requires c κs = search needs
-
 returns : tie.Need-returns
 unfolding standing
 returns c = simp (eq-eqb _ _ (c .before .if1 .taken)) (c .number .ensures)
@@ -17,4 +14,4 @@ unfolding standing
 returns-2 c = simp (ne-eqb _ _ (c .if1 .left))
 
 pub stands-spec : {M : Type 1} → statement M
-stands-spec = tie.close (tie.spec number-requires returns returns-2)
+stands-spec = tie.close (tie.spec (λ c κs. search needs) returns returns-2)

@@ -19,9 +19,6 @@ element-write-seen c = omega (arith, c .pre)
 cast-queue : tie.Need-cast-queue Inv-loop μ-loop
 cast-queue c = omega (arith, c .pre)
 
-element-write-queue : tie.Need-element-write-queue Inv-loop μ-loop
-element-write-queue c = search needs
-
 loop-holds : tie.Need-loop-holds Inv-loop μ-loop
 loop-holds c = walk-start (c .pre)
 
@@ -54,7 +51,8 @@ loop-less c =
 loop-again : tie.Need-loop-again Inv-loop μ-loop
 loop-again c =
     let a = c .before .before .before .before .before .before .before in
-    walk-turn (a .loop .inv) (c .before .before .before .before .before .before .loop-test .taken) (sym (c .before .before .before .before .on-border .ensures) ∙ c .before .before .before .if1 .left) (c .around .ensures)
+    walk-turn (a .loop .inv) (c .before .before .before .before .before .before .loop-test .taken)
+    (sym (c .before .before .before .before .on-border .ensures) ∙ c .before .before .before .if1 .left) (c .around .ensures)
 
 returns-2 : tie.Need-returns-2 Inv-loop μ-loop
 returns-2 c = walk-none (c .before .loop .inv) (c .loop-test .left)
@@ -67,7 +65,7 @@ seek-spec =
     μ-loop
     element-write-seen
     cast-queue
-    element-write-queue
+    (λ c. search needs)
     loop-holds
     mul-at
     element-copy-out-at

@@ -3,15 +3,6 @@ use mathlib.Core.Path.{sym, _∙_}
 use Rattle.cutter_capture.proofs.better.Statement.{statement}
 use Rattle.cutter_capture.proofs.better.Tie as tie
 
-sub-beats : tie.Need-sub-beats
-sub-beats c = search needs
-
-sub-beats-2 : tie.Need-sub-beats-2
-sub-beats-2 c = search needs
-
-beats-requires : tie.Need-beats-requires
-beats-requires c κs = search needs
-
 returns : tie.Need-returns
 returns c = rw (sym (c .before .beats .ensures) ∙ c .if1 .taken)
 
@@ -22,8 +13,8 @@ pub better-spec : {M : Type 1} → statement M
 better-spec =
     tie.close
     (tie.spec
-    sub-beats
-    sub-beats-2
-    beats-requires
+    (λ c. search needs)
+    (λ c. search needs)
+    (λ c κs. search needs)
     returns
     returns-2)

@@ -10,7 +10,8 @@ use Rattle.laws.proofs.Lists.{getD-default}
 use Rattle.cutter_ground.specs.Cells.{CN, CB-FILLED}
 use Rattle.cutter_joined.specs.Joined.{Black, Right}
 use Rattle.cutter_joined.proofs.Labels.{labels}
-use Rattle.cutter_capture.proofs.Between.{Between, between-start, between-passed, begins, between-ready, between-found, found-less, found-size, lead-order, chosen-full, chosen-end}
+use Rattle.cutter_capture.proofs.Between.{Between, between-start, between-passed, begins, between-ready, between-found, found-less, found-size}
+use Rattle.cutter_capture.proofs.Between.{lead-order, chosen-full, chosen-end}
 use Rattle.cutter_capture.proofs.choose.Statement.{statement}
 use Rattle.cutter_capture.proofs.choose.Tie as tie
 
@@ -44,12 +45,6 @@ loop-holds c =
     let p = c .before .pre in
     let g = now (c .before .args .grid) in
     between-start (labels g .1 (p .cells)) (take (c .before .args .count) _) (p .cells) (p .clear) (p .long) (p .some)
-
-element-copy-out-if1 : tie.Need-element-copy-out-if1 Inv-loop μ-loop
-element-copy-out-if1 c = search needs
-
-element-copy-out-if2 : tie.Need-element-copy-out-if2 Inv-loop μ-loop
-element-copy-out-if2 c = search needs
 
 returns : tie.Need-returns Inv-loop μ-loop
 returns c = let a = c .before .before .before .before .before .before in chosen-full (right a) (a .loop .inv) (c .if3 .taken)
@@ -89,12 +84,6 @@ add-done c =
     let a = c .before .before .before .before .before .before .before .before .before .before .before .before in
     omega (arith, a .loop .inv .few)
 
-add-start : tie.Need-add-start Inv-loop μ-loop
-add-start c = search needs
-
-loop-less : tie.Need-loop-less Inv-loop μ-loop
-loop-less c = search needs
-
 loop-again : tie.Need-loop-again Inv-loop μ-loop
 loop-again c =
     let a = c .before .before .before in
@@ -119,15 +108,15 @@ choose-spec =
     Inv-loop
     μ-loop
     loop-holds
-    element-copy-out-if1
-    element-copy-out-if2
+    (λ c. search needs)
+    (λ c. search needs)
     returns
     find-requires
     standing-requires
     sub-better
     better-requires
     add-done
-    add-start
-    loop-less
+    (λ c. search needs)
+    (λ c. search needs)
     loop-again
     returns-2)

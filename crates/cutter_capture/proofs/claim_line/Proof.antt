@@ -16,24 +16,6 @@ Inv-loop grid₀ i₀ grid i = (i ≤ CN) × (length grid ≡ CN) × (take i gri
 abbrev μ-loop : tie.MeasureT-loop
 μ-loop grid₀ i₀ grid i = CN - i
 
-loop-holds : tie.Need-loop-holds Inv-loop μ-loop
-loop-holds c = search needs
-
-element-copy-out-off-line : tie.Need-element-copy-out-off-line Inv-loop μ-loop
-element-copy-out-off-line c = search needs
-
-off-line-requires : tie.Need-off-line-requires Inv-loop μ-loop
-off-line-requires c κs = search needs
-
-element-write-grid : tie.Need-element-write-grid Inv-loop μ-loop
-element-write-grid c = search needs
-
-add-i : tie.Need-add-i Inv-loop μ-loop
-add-i c = search needs
-
-loop-less : tie.Need-loop-less Inv-loop μ-loop
-loop-less c = search needs
-
 loop-again : tie.Need-loop-again Inv-loop μ-loop
 loop-again c =
     let a = c .before .before .before in
@@ -54,11 +36,11 @@ claim-line-spec =
     (tie.spec
     Inv-loop
     μ-loop
-    loop-holds
-    element-copy-out-off-line
-    off-line-requires
-    element-write-grid
-    add-i
-    loop-less
+    (λ c. search needs)
+    (λ c. search needs)
+    (λ c κs. search needs)
+    (λ c. search needs)
+    (λ c. search needs)
+    (λ c. search needs)
     loop-again
     returns)

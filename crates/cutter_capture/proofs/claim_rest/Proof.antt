@@ -14,24 +14,6 @@ abbrev μ-loop : tie.MeasureT-loop
 loop-holds : tie.Need-loop-holds Inv-loop μ-loop
 loop-holds c = claiming-start _ _ (c .pre .0) (c .pre .1)
 
-element-copy-out-captured : tie.Need-element-copy-out-captured Inv-loop μ-loop
-element-copy-out-captured c = search needs
-
-element-copy-out-captured-2 : tie.Need-element-copy-out-captured-2 Inv-loop μ-loop
-element-copy-out-captured-2 c = search needs
-
-captured-requires : tie.Need-captured-requires Inv-loop μ-loop
-captured-requires c κs = search needs
-
-element-write-grid : tie.Need-element-write-grid Inv-loop μ-loop
-element-write-grid c = search needs
-
-add-i : tie.Need-add-i Inv-loop μ-loop
-add-i c = search needs
-
-loop-less : tie.Need-loop-less Inv-loop μ-loop
-loop-less c = search needs
-
 loop-again : tie.Need-loop-again Inv-loop μ-loop
 loop-again c =
     let a = c .before .before .before .before in
@@ -47,11 +29,11 @@ claim-rest-spec =
     Inv-loop
     μ-loop
     loop-holds
-    element-copy-out-captured
-    element-copy-out-captured-2
-    captured-requires
-    element-write-grid
-    add-i
-    loop-less
+    (λ c. search needs)
+    (λ c. search needs)
+    (λ c κs. search needs)
+    (λ c. search needs)
+    (λ c. search needs)
+    (λ c. search needs)
     loop-again
     returns)

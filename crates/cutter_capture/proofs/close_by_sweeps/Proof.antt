@@ -8,9 +8,6 @@ use Rattle.cutter_capture.proofs.Whole.{line-closes, closed-line}
 use Rattle.cutter_capture.proofs.close_by_sweeps.Statement.{statement}
 use Rattle.cutter_capture.proofs.close_by_sweeps.Tie as tie
 
-claim-line-requires : tie.Need-claim-line-requires
-claim-line-requires c κs = search needs
-
 settle-requires : tie.Need-settle-requires
 settle-requires c κs = let a = c .before .before in record { cells = line-closes _ (a .claim-line .ensures) (a .before .before .pre) .cells; len = length-replicate {A = ℕ} CN 0 }
 
@@ -38,7 +35,7 @@ pub close-by-sweeps-spec : {M : Type 1} → statement M
 close-by-sweeps-spec =
     tie.close
     (tie.spec
-    claim-line-requires
+    (λ c κs. search needs)
     settle-requires
     slice-aggregate-close-regions
     close-regions-requires

@@ -6,12 +6,6 @@ use Rattle.cutter_capture.proofs.Whole.{line-closes, closed-line}
 use Rattle.cutter_capture.proofs.close_cut.Statement.{statement}
 use Rattle.cutter_capture.proofs.close_cut.Tie as tie
 
-claim-line-requires : tie.Need-claim-line-requires
-claim-line-requires c κs = search needs
-
-slice-aggregate-close-regions : tie.Need-slice-aggregate-close-regions
-slice-aggregate-close-regions c = search needs
-
 -- no number comes in
 close-regions-requires : tie.Need-close-regions-requires
 close-regions-requires c κs = let a = c .before .before in (line-closes _ (a .claim-line .ensures) (a .before .before .pre), λ e. absurd (omega arith))
@@ -23,4 +17,4 @@ returns c =
     c .close-regions .ensures ∙ closed-line _ (a .claim-line .ensures) (s .limit) (take (s .count) (s .enemies))
 
 pub close-cut-spec : {M : Type 1} → statement M
-close-cut-spec = tie.close (tie.spec claim-line-requires slice-aggregate-close-regions close-regions-requires returns)
+close-cut-spec = tie.close (tie.spec (λ c κs. search needs) (λ c. search needs) close-regions-requires returns)

@@ -26,9 +26,6 @@ claim-rest-requires c κs =
     let s = m .before .before .before .before .before .before .before .before in
     (s .pre .0 .cells, m .mark .ensures .len)
 
-keep-of-requires : tie.Need-keep-of-requires
-keep-of-requires c κs = search needs
-
 retain-requires : tie.Need-retain-requires
 retain-requires c κs =
     let m = c .before .before .before .before .before in
@@ -53,6 +50,6 @@ close-regions-spec =
     choose-requires
     mark-requires
     claim-rest-requires
-    keep-of-requires
+    (λ c κs. search needs)
     retain-requires
     returns)

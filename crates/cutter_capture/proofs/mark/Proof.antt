@@ -31,12 +31,6 @@ element-write-seen c =
     let a = c .before .before in
     omega (arith, a .before .pre .inn (a .loop .i) (a .loop .inv .0) (c .before .loop-test .taken), a .loop .inv .2 .len)
 
-add-i : tie.Need-add-i Inv-loop μ-loop
-add-i c = search needs
-
-loop-less : tie.Need-loop-less Inv-loop μ-loop
-loop-less c = search needs
-
 loop-again : tie.Need-loop-again Inv-loop μ-loop
 loop-again c =
     let a = c .before .before in
@@ -61,7 +55,7 @@ mark-spec =
     element-copy-out-at
     cast-at
     element-write-seen
-    add-i
-    loop-less
+    (λ c. search needs)
+    (λ c. search needs)
     loop-again
     returns)

@@ -26,29 +26,11 @@ abbrev μ-loop : tie.MeasureT-loop
 loop-holds : tie.Need-loop-holds Inv-loop μ-loop
 loop-holds c = (omega arith, omega arith, refl)
 
-mul-e : tie.Need-mul-e Inv-loop μ-loop
-mul-e c = search needs
-
-array-copy-out-e : tie.Need-array-copy-out-e Inv-loop μ-loop
-array-copy-out-e c = search needs
-
-cell-of-requires : tie.Need-cell-of-requires Inv-loop μ-loop
-cell-of-requires c κs = search needs
-
 element-copy-out-if1 : tie.Need-element-copy-out-if1 Inv-loop μ-loop
 element-copy-out-if1 c =
     let a = c .before .before .before in
     let h = on-grid (a .before .pre .1) (a .loop .i) blankSlot (c .before .before .loop-test .taken) (omega arith) in
     omega (arith, c .cell-of .ensures)
-
-add-n : tie.Need-add-n Inv-loop μ-loop
-add-n c = search needs
-
-add-i : tie.Need-add-i Inv-loop μ-loop
-add-i c = search needs
-
-loop-less : tie.Need-loop-less Inv-loop μ-loop
-loop-less c = search needs
 
 loop-again : tie.Need-loop-again Inv-loop μ-loop
 loop-again c =
@@ -64,7 +46,8 @@ loop-again c =
     let q = a .loop .inv .2 in
     ⊎-elim
     (λ w. let b : bit (eqb (markOf N (getD cs (a .loop .i) blankSlot)) SEEN) ≡ 1 = ap bit (eq-eqb _ _ (e ∙ w .0 .taken)) in (omega arith, omega (arith, w .1), w .1 ∙ omega arith))
-    (λ w. let b : bit (eqb (markOf N (getD cs (a .loop .i) blankSlot)) SEEN) ≡ 0 = ap bit (ne-eqb _ _ (λ z. w .0 .left (sym e ∙ z))) in (omega arith, omega (arith, w .1), w .1 ∙ omega arith))
+    (λ w. let b : bit (eqb (markOf N (getD cs (a .loop .i) blankSlot)) SEEN)
+    ≡ 0 = ap bit (ne-eqb _ _ (λ z. w .0 .left (sym e ∙ z))) in (omega arith, omega (arith, w .1), w .1 ∙ omega arith))
     (c .if1 .came)
 
 returns : tie.Need-returns Inv-loop μ-loop
@@ -81,12 +64,12 @@ standing-spec =
     Inv-loop
     μ-loop
     loop-holds
-    mul-e
-    array-copy-out-e
-    cell-of-requires
+    (λ c. search needs)
+    (λ c. search needs)
+    (λ c κs. search needs)
     element-copy-out-if1
-    add-n
-    add-i
-    loop-less
+    (λ c. search needs)
+    (λ c. search needs)
+    (λ c. search needs)
     loop-again
     returns)

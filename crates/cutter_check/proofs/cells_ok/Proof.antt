@@ -10,9 +10,6 @@ use Rattle.cutter_check.proofs.Codes.{codes-largest, line-largest}
 use Rattle.cutter_check.proofs.cells_ok.Statement.{statement}
 use Rattle.cutter_check.proofs.cells_ok.Tie as tie
 
-largest-requires : tie.Need-largest-requires
-largest-requires c κs = search needs
-
 returns : tie.Need-returns
 unfolding cellsOk
 returns c =
@@ -21,12 +18,6 @@ returns c =
     let most = c .before .largest in
     let bad : all isCode g ≡ false = sym (codes-largest g) ∙ ap isCode (sym (most .ensures)) ∙ lt-leb _ _ (c .if1 .taken) in
     simp (eq-eqb _ _ (a .pre), bad)
-
-rows-filled-requires : tie.Need-rows-filled-requires
-rows-filled-requires c κs = search needs
-
-columns-filled-requires : tie.Need-columns-filled-requires
-columns-filled-requires c κs = search needs
 
 returns-2 : tie.Need-returns-2
 unfolding cellsOk
@@ -41,4 +32,4 @@ returns-2 c =
 pub cells-ok-spec : {M : Type 1} → statement M
 cells-ok-spec =
     tie.close
-    (tie.spec largest-requires returns rows-filled-requires columns-filled-requires returns-2)
+    (tie.spec (λ c κs. search needs) returns (λ c κs. search needs) (λ c κs. search needs) returns-2)

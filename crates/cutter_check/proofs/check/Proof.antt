@@ -19,7 +19,16 @@ use Rattle.cutter_ground.specs.Movers.{MAX-ENEMIES}
 
 -- what the types of the parameter tell
 abbrev Began : Type 0
-Began = lts.Start (cells-ok-reads.Asked, cells-ok-reads.Learnt, player-ok-reads.Asked, player-ok-reads.Learnt, creatures-ok-reads.Asked, creatures-ok-reads.Learnt, numbers-ok-reads.Asked, numbers-ok-reads.Learnt) reads.Pre reads.Post
+Began = lts.Start (
+  cells-ok-reads.Asked,
+  cells-ok-reads.Learnt,
+  player-ok-reads.Asked,
+  player-ok-reads.Learnt,
+  creatures-ok-reads.Asked,
+  creatures-ok-reads.Learnt,
+  numbers-ok-reads.Asked,
+  numbers-ok-reads.Learnt,
+) reads.Pre reads.Post
 
 full : (s : Began) → length (s .args .c .enemies) ≡ MAX-ENEMIES
 full s = search (needs, mapped)
@@ -27,15 +36,9 @@ full s = search (needs, mapped)
 signed : (s : Began) → SFits w8 (s .args .c .dx) × SFits w8 (s .args .c .dy)
 signed s = (search needs, search needs)
 
-cells-ok-requires : tie.Need-cells-ok-requires
-cells-ok-requires c κs = search needs
-
 returns : tie.Need-returns
 unfolding refusalOf
 returns c = simp (sym (c .before .cells-ok .ensures) ∙ not-true _ (c .if1 .taken))
-
-player-ok-requires : tie.Need-player-ok-requires
-player-ok-requires c κs = search needs
 
 returns-2 : tie.Need-returns-2
 unfolding refusalOf playerOk
@@ -45,9 +48,6 @@ returns-2 c =
     let player : playerOk (s .args .c) ≡ c .before .player-ok .result = simp (c .before .player-ok .ensures, toZ-ofZ (signed s .0), toZ-ofZ (signed s .1)) in
     simp (sym (a .before .cells-ok .ensures) ∙ not-false _ (a .if1 .left), player ∙ not-true _ (c .if2 .taken))
 
-creatures-ok-requires : tie.Need-creatures-ok-requires
-creatures-ok-requires c κs = search needs
-
 returns-3 : tie.Need-returns-3
 unfolding refusalOf playerOk creaturesOk
 returns-3 c =
@@ -55,11 +55,13 @@ returns-3 c =
     let a = b .before .before .before .before .before in
     let s = a .before .before .before .before .before in
     let player : playerOk (s .args .c) ≡ b .before .player-ok .result = simp (b .before .player-ok .ensures, toZ-ofZ (signed s .0), toZ-ofZ (signed s .1)) in
-    simp
-    (sym (a .before .cells-ok .ensures) ∙ not-false _ (a .if1 .left), player ∙ not-false _ (b .if2 .left), eq-eqb _ _ (full s), sym (c .before .creatures-ok .ensures) ∙ not-true _ (c .if3 .taken))
-
-numbers-ok-requires : tie.Need-numbers-ok-requires
-numbers-ok-requires c κs = search needs
+    simp (
+      sym (a .before .cells-ok .ensures) ∙ not-false _ (a .if1 .left),
+      player ∙ not-false _ (b .if2 .left),
+      eq-eqb _ _ (full s),
+      sym (c .before .creatures-ok .ensures)
+          ∙ not-true _ (c .if3 .taken),
+    )
 
 returns-4 : tie.Need-returns-4
 unfolding refusalOf playerOk creaturesOk
@@ -69,8 +71,14 @@ returns-4 c =
     let a = b .before .before .before .before .before in
     let s = a .before .before .before .before .before in
     let player : playerOk (s .args .c) ≡ b .before .player-ok .result = simp (b .before .player-ok .ensures, toZ-ofZ (signed s .0), toZ-ofZ (signed s .1)) in
-    simp
-    (sym (a .before .cells-ok .ensures) ∙ not-false _ (a .if1 .left), player ∙ not-false _ (b .if2 .left), eq-eqb _ _ (full s), sym (d .before .creatures-ok .ensures) ∙ not-false _ (d .if3 .left), sym (c .before .numbers-ok .ensures) ∙ not-true _ (c .if4 .taken))
+    simp (
+      sym (a .before .cells-ok .ensures) ∙ not-false _ (a .if1 .left),
+      player ∙ not-false _ (b .if2 .left),
+      eq-eqb _ _ (full s),
+      sym (d .before .creatures-ok .ensures)
+          ∙ not-false _ (d .if3 .left),
+      sym (c .before .numbers-ok .ensures) ∙ not-true _ (c .if4 .taken),
+    )
 
 returns-5 : tie.Need-returns-5
 unfolding refusalOf playerOk creaturesOk
@@ -80,19 +88,25 @@ returns-5 c =
     let a = b .before .before .before .before .before in
     let s = a .before .before .before .before .before in
     let player : playerOk (s .args .c) ≡ b .before .player-ok .result = simp (b .before .player-ok .ensures, toZ-ofZ (signed s .0), toZ-ofZ (signed s .1)) in
-    simp
-    (sym (a .before .cells-ok .ensures) ∙ not-false _ (a .if1 .left), player ∙ not-false _ (b .if2 .left), eq-eqb _ _ (full s), sym (d .before .creatures-ok .ensures) ∙ not-false _ (d .if3 .left), sym (c .before .numbers-ok .ensures) ∙ not-false _ (c .if4 .left))
+    simp (
+      sym (a .before .cells-ok .ensures) ∙ not-false _ (a .if1 .left),
+      player ∙ not-false _ (b .if2 .left),
+      eq-eqb _ _ (full s),
+      sym (d .before .creatures-ok .ensures)
+          ∙ not-false _ (d .if3 .left),
+      sym (c .before .numbers-ok .ensures) ∙ not-false _ (c .if4 .left),
+    )
 
 pub check-spec : {M : Type 1} → statement M
 check-spec =
     tie.close
     (tie.spec
-    cells-ok-requires
+    (λ c κs. search needs)
     returns
-    player-ok-requires
+    (λ c κs. search needs)
     returns-2
-    creatures-ok-requires
+    (λ c κs. search needs)
     returns-3
-    numbers-ok-requires
+    (λ c κs. search needs)
     returns-4
     returns-5)

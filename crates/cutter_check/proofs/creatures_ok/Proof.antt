@@ -13,16 +13,10 @@ returns c =
     let more : MAX-ENEMIES < c .before .args .count = omega (arith, c .if1 .taken) in
     simp (lt-leb _ _ more)
 
-movers-ok-requires : tie.Need-movers-ok-requires
-movers-ok-requires c κs = search needs
-
-rest-blank-requires : tie.Need-rest-blank-requires
-rest-blank-requires c κs = search needs
-
 returns-2 : tie.Need-returns-2
 returns-2 c =
     let t = c .before .before in
     simp (le-leb _ _ (t .if1 .left)) (ap₂ _&&_ (c .before .movers-ok .ensures) (c .rest-blank .ensures))
 
 pub creatures-ok-spec : {M : Type 1} → statement M
-creatures-ok-spec = tie.close (tie.spec returns movers-ok-requires rest-blank-requires returns-2)
+creatures-ok-spec = tie.close (tie.spec returns (λ c κs. search needs) (λ c κs. search needs) returns-2)

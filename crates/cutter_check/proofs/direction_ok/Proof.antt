@@ -6,17 +6,11 @@ use Rattle.cutter_state.proofs.Signs.{zero-bits, direction-down, direction-acro
 use Rattle.cutter_check.proofs.direction_ok.Statement.{statement}
 use Rattle.cutter_check.proofs.direction_ok.Tie as tie
 
-is-unit-requires : tie.Need-is-unit-requires
-is-unit-requires c κs = search needs
-
 returns : tie.Need-returns
 returns c =
     let a = c .before .before in
     let e = sym (zero-bits (a .args .dx) (a .fits .dx)) ∙ eq-eqb _ _ (c .before .if1 .taken) in
     simp (c .is-unit .ensures, toZ-ofZ (a .fits .dy), zero-bits (a .args .dy) (a .fits .dy)) (direction-down (a .args .dx) (a .args .dy) e)
-
-is-unit-requires-2 : tie.Need-is-unit-requires-2
-is-unit-requires-2 c κs = search needs
 
 returns-2 : tie.Need-returns-2
 returns-2 c =
@@ -25,4 +19,4 @@ returns-2 c =
     simp (c .is-unit2 .ensures, toZ-ofZ (a .fits .dx), zero-bits (a .args .dy) (a .fits .dy)) (direction-across (a .args .dx) (a .args .dy) e)
 
 pub direction-ok-spec : {M : Type 1} → statement M
-direction-ok-spec = tie.close (tie.spec is-unit-requires returns is-unit-requires-2 returns-2)
+direction-ok-spec = tie.close (tie.spec (λ c κs. search needs) returns (λ c κs. search needs) returns-2)

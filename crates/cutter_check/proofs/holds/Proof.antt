@@ -18,15 +18,6 @@ returns-2 : tie.Need-returns-2
 unfolding holdsAt
 returns-2 c = simp (lt-ltb _ _ (c .before .if1 .left), le-ltb _ _ (c .if2 .taken))
 
-mul-result : tie.Need-mul-result
-mul-result c = search needs
-
-add-result : tie.Need-add-result
-add-result c = search needs
-
-element-copy-out-result : tie.Need-element-copy-out-result
-element-copy-out-result c = search needs
-
 returns-3 : tie.Need-returns-3
 unfolding holdsAt
 returns-3 c =
@@ -38,4 +29,4 @@ returns-3 c =
 
 pub holds-spec : {M : Type 1} → statement M
 holds-spec =
-    tie.close (tie.spec returns returns-2 mul-result add-result element-copy-out-result returns-3)
+    tie.close (tie.spec returns returns-2 (λ c. search needs) (λ c. search needs) (λ c. search needs) returns-3)

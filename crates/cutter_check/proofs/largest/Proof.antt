@@ -21,12 +21,6 @@ abbrev μ-loop : tie.MeasureT-loop
 loop-holds : tie.Need-loop-holds Inv-loop μ-loop
 loop-holds c = (search needs, refl)
 
-element-copy-out-if1 : tie.Need-element-copy-out-if1 Inv-loop μ-loop
-element-copy-out-if1 c = search needs
-
-element-copy-out-most : tie.Need-element-copy-out-most Inv-loop μ-loop
-element-copy-out-most c = search needs
-
 add-i : tie.Need-add-i Inv-loop μ-loop
 add-i c = omega arith
 
@@ -56,8 +50,8 @@ largest-spec =
     Inv-loop
     μ-loop
     loop-holds
-    element-copy-out-if1
-    element-copy-out-most
+    (λ c. search needs)
+    (λ c. search needs)
     add-i
     loop-less
     loop-again

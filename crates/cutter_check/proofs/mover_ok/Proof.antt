@@ -6,21 +6,6 @@ use Rattle.cutter_state.specs.WellFormed.{moverOk}
 use Rattle.cutter_check.proofs.mover_ok.Statement.{statement}
 use Rattle.cutter_check.proofs.mover_ok.Tie as tie
 
-cast-x : tie.Need-cast-x
-cast-x c = search needs
-
-cast-y : tie.Need-cast-y
-cast-y c = search needs
-
-holds-requires : tie.Need-holds-requires
-holds-requires c κs = search needs
-
-is-unit-requires : tie.Need-is-unit-requires
-is-unit-requires c κs = search needs
-
-is-unit-requires-2 : tie.Need-is-unit-requires-2
-is-unit-requires-2 c κs = search needs
-
 returns : tie.Need-returns
 unfolding moverOk
 returns c =
@@ -31,4 +16,4 @@ returns c =
 
 pub mover-ok-spec : {M : Type 1} → statement M
 mover-ok-spec =
-    tie.close (tie.spec cast-x cast-y holds-requires is-unit-requires is-unit-requires-2 returns)
+    tie.close (tie.spec (λ c. search needs) (λ c. search needs) (λ c κs. search needs) (λ c κs. search needs) (λ c κs. search needs) returns)

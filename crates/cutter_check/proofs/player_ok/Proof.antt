@@ -5,15 +5,6 @@ use borrow.Author.Needs.{needs}
 use Rattle.cutter_check.proofs.player_ok.Statement.{statement}
 use Rattle.cutter_check.proofs.player_ok.Tie as tie
 
-footing-code-requires : tie.Need-footing-code-requires
-footing-code-requires c κs = search needs
-
-holds-requires : tie.Need-holds-requires
-holds-requires c κs = search needs
-
-direction-ok-requires : tie.Need-direction-ok-requires
-direction-ok-requires c κs = search needs
-
 returns : tie.Need-returns
 returns c =
     let a = c .before .before .before in
@@ -23,4 +14,4 @@ returns c =
 
 pub player-ok-spec : {M : Type 1} → statement M
 player-ok-spec =
-    tie.close (tie.spec footing-code-requires holds-requires direction-ok-requires returns)
+    tie.close (tie.spec (λ c κs. search needs) (λ c κs. search needs) (λ c κs. search needs) returns)

@@ -3,18 +3,6 @@ use Rattle.cutter_ground.proofs.Visits.{room-kept}
 use Rattle.cutter_ground.proofs.around.Statement.{statement}
 use Rattle.cutter_ground.proofs.around.Tie as tie
 
-left-of-requires : tie.Need-left-of-requires
-left-of-requires c κs = search needs
-
-right-of-requires : tie.Need-right-of-requires
-right-of-requires c κs = search needs
-
-up-of-requires : tie.Need-up-of-requires
-up-of-requires c κs = search needs
-
-down-of-requires : tie.Need-down-of-requires
-down-of-requires c κs = search needs
-
 visit-requires : tie.Need-visit-requires
 visit-requires c κs = c .before .before .before .before .before .before .pre
 
@@ -22,12 +10,15 @@ visit-requires-2 : tie.Need-visit-requires-2
 visit-requires-2 c κs = room-kept (c .before .before .before .before .before .before .before .before .before .pre) (c .before .before .visit .ensures)
 
 visit-requires-3 : tie.Need-visit-requires-3
-visit-requires-3 c κs = room-kept (room-kept (c .before .before .before .before .before .before .before .before .before .before .before .before .pre) (c .before .before .before .before .before .visit .ensures)) (c .before .before .visit2 .ensures)
+visit-requires-3 c κs = room-kept
+    (room-kept (c .before .before .before .before .before .before .before .before .before .before .before .before .pre)
+    (c .before .before .before .before .before .visit .ensures)) (c .before .before .visit2 .ensures)
 
 visit-requires-4 : tie.Need-visit-requires-4
 visit-requires-4 c κs =
     let first = c .before .before .before .before .before .before .before .before in
-    room-kept (room-kept (room-kept (first .before .before .before .before .before .before .before .pre) (first .visit .ensures)) (c .before .before .before .before .before .visit2 .ensures)) (c .before .before .visit3 .ensures)
+    room-kept (room-kept (room-kept (first .before .before .before .before .before .before .before .pre) (first .visit .ensures))
+    (c .before .before .before .before .before .visit2 .ensures)) (c .before .before .visit3 .ensures)
 
 returns : tie.Need-returns
 returns c =
@@ -55,10 +46,10 @@ pub around-spec : {M : Type 1} → statement M
 around-spec =
     tie.close
     (tie.spec
-    left-of-requires
-    right-of-requires
-    up-of-requires
-    down-of-requires
+    (λ c κs. search needs)
+    (λ c κs. search needs)
+    (λ c κs. search needs)
+    (λ c κs. search needs)
     visit-requires
     visit-requires-2
     visit-requires-3

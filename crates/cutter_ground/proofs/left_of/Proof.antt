@@ -3,9 +3,6 @@ use borrow.Author.Tests.{lt-ltb, le-ltb}
 use Rattle.cutter_ground.proofs.left_of.Statement.{statement}
 use Rattle.cutter_ground.proofs.left_of.Tie as tie
 
-sub-result : tie.Need-sub-result
-sub-result c = search needs
-
 returns : tie.Need-returns
 returns c = rw (lt-ltb _ _ (c .if1 .taken))
 
@@ -13,4 +10,4 @@ returns-2 : tie.Need-returns-2
 returns-2 c = rw (le-ltb _ _ (c .if1 .left))
 
 pub left-of-spec : {M : Type 1} → statement M
-left-of-spec = tie.close (tie.spec sub-result returns returns-2)
+left-of-spec = tie.close (tie.spec (λ c. search needs) returns returns-2)

@@ -5,54 +5,6 @@ use Rattle.cutter_ground.specs.Cells.{blackAt, leftOf, rightOf, upOf, do
 use Rattle.cutter_ground.proofs.on_border.Statement.{statement}
 use Rattle.cutter_ground.proofs.on_border.Tie as tie
 
-up-of-requires : tie.Need-up-of-requires
-up-of-requires c κs = search needs
-
-down-of-requires : tie.Need-down-of-requires
-down-of-requires c κs = search needs
-
-left-of-requires : tie.Need-left-of-requires
-left-of-requires c κs = search needs
-
-black-at-requires : tie.Need-black-at-requires
-black-at-requires c κs = search needs
-
-right-of-requires : tie.Need-right-of-requires
-right-of-requires c κs = search needs
-
-black-at-requires-2 : tie.Need-black-at-requires-2
-black-at-requires-2 c κs = search needs
-
-black-at-requires-3 : tie.Need-black-at-requires-3
-black-at-requires-3 c κs = search needs
-
-black-at-requires-4 : tie.Need-black-at-requires-4
-black-at-requires-4 c κs = search needs
-
-left-of-requires-2 : tie.Need-left-of-requires-2
-left-of-requires-2 c κs = search needs
-
-black-at-requires-5 : tie.Need-black-at-requires-5
-black-at-requires-5 c κs = search needs
-
-right-of-requires-2 : tie.Need-right-of-requires-2
-right-of-requires-2 c κs = search needs
-
-black-at-requires-6 : tie.Need-black-at-requires-6
-black-at-requires-6 c κs = search needs
-
-left-of-requires-3 : tie.Need-left-of-requires-3
-left-of-requires-3 c κs = search needs
-
-black-at-requires-7 : tie.Need-black-at-requires-7
-black-at-requires-7 c κs = search needs
-
-right-of-requires-3 : tie.Need-right-of-requires-3
-right-of-requires-3 c κs = search needs
-
-black-at-requires-8 : tie.Need-black-at-requires-8
-black-at-requires-8 c κs = search needs
-
 returns : tie.Need-returns
 returns c =
     let g = now (c .before .before .before .before .before .before .before .before .before .before .before .before .before .before .before .before .args .grid) in
@@ -81,20 +33,20 @@ pub on-border-spec : {M : Type 1} → statement M
 on-border-spec =
     tie.close
     (tie.spec
-    up-of-requires
-    down-of-requires
-    left-of-requires
-    black-at-requires
-    right-of-requires
-    black-at-requires-2
-    black-at-requires-3
-    black-at-requires-4
-    left-of-requires-2
-    black-at-requires-5
-    right-of-requires-2
-    black-at-requires-6
-    left-of-requires-3
-    black-at-requires-7
-    right-of-requires-3
-    black-at-requires-8
+    (λ c κs. search needs)
+    (λ c κs. search needs)
+    (λ c κs. search needs)
+    (λ c κs. search needs)
+    (λ c κs. search needs)
+    (λ c κs. search needs)
+    (λ c κs. search needs)
+    (λ c κs. search needs)
+    (λ c κs. search needs)
+    (λ c κs. search needs)
+    (λ c κs. search needs)
+    (λ c κs. search needs)
+    (λ c κs. search needs)
+    (λ c κs. search needs)
+    (λ c κs. search needs)
+    (λ c κs. search needs)
     returns)

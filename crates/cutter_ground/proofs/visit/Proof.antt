@@ -12,35 +12,24 @@ use Rattle.cutter_ground.specs.CodeVisit.{SEEN}
 use Rattle.cutter_ground.proofs.visit.Statement.{statement}
 use Rattle.cutter_ground.proofs.visit.Tie as tie
 
-element-copy-out-if2 : tie.Need-element-copy-out-if2
-element-copy-out-if2 c = search needs
-
-element-copy-out-if3 : tie.Need-element-copy-out-if3
-element-copy-out-if3 c = search needs
-
-element-write-seen : tie.Need-element-write-seen
-element-write-seen c = search needs
-
-cast-queue : tie.Need-cast-queue
-cast-queue c = search needs
-
-mul-queue : tie.Need-mul-queue
-mul-queue c = search needs
-
 element-write-queue : tie.Need-element-write-queue
 element-write-queue c =
     let s = c .before .before .before .before .before in
     let len : s .args .at < length (now (s .args .seen)) = omega (arith, s .pre, c .before .before .before .before .if1) in
     omega (arith, s .pre, tally-lose (now (s .args .seen)) (s .args .at) 0 SEEN len (c .if3 .taken) (λ e. omega arith))
 
-add-result : tie.Need-add-result
-add-result c = search needs
-
 returns : tie.Need-returns
 returns c =
     let s = c .before .before .before .before .before in
     let len : s .args .at < length (now (s .args .grid)) = omega (arith, s .pre, c .before .before .before .before .if1) in
-    inl (record { holds = getD-default (now (s .args .grid)) (s .args .at) 3 0 len ∙ c .before .before .if2 .taken; fresh = c .if3 .taken; marks = refl; queue = refl; tail = refl })
+    inl (record {
+      holds = getD-default (now (s .args .grid)) (s .args .at) 3 0 len
+          ∙ c .before .before .if2 .taken;
+      fresh = c .if3 .taken;
+      marks = refl;
+      queue = refl;
+      tail = refl;
+    })
 
 returns-2 : tie.Need-returns-2
 returns-2 c = inr (record { why = λ p q. c .if3 .left q; marks = refl; queue = refl; tail = refl })
@@ -60,13 +49,13 @@ pub visit-spec : {M : Type 1} → statement M
 visit-spec =
     tie.close
     (tie.spec
-    element-copy-out-if2
-    element-copy-out-if3
-    element-write-seen
-    cast-queue
-    mul-queue
+    (λ c. search needs)
+    (λ c. search needs)
+    (λ c. search needs)
+    (λ c. search needs)
+    (λ c. search needs)
     element-write-queue
-    add-result
+    (λ c. search needs)
     returns
     returns-2
     returns-3

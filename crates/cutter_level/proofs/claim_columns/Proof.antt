@@ -20,30 +20,6 @@ abbrev μ-loop : tie.MeasureT-loop
 loop-holds : tie.Need-loop-holds Inv-loop μ-loop
 loop-holds c = (omega arith, c .pre, refl)
 
-mul-grid : tie.Need-mul-grid Inv-loop μ-loop
-mul-grid c = search needs
-
-element-write-grid : tie.Need-element-write-grid Inv-loop μ-loop
-element-write-grid c = search needs
-
-mul-grid-2 : tie.Need-mul-grid-2 Inv-loop μ-loop
-mul-grid-2 c = search needs
-
-add-grid : tie.Need-add-grid Inv-loop μ-loop
-add-grid c = search needs
-
-sub-grid : tie.Need-sub-grid Inv-loop μ-loop
-sub-grid c = search needs
-
-element-write-grid-2 : tie.Need-element-write-grid-2 Inv-loop μ-loop
-element-write-grid-2 c = search needs
-
-add-y : tie.Need-add-y Inv-loop μ-loop
-add-y c = search needs
-
-loop-less : tie.Need-loop-less Inv-loop μ-loop
-loop-less c = search needs
-
 loop-again : tie.Need-loop-again Inv-loop μ-loop
 unfolding claimColumn
 loop-again c =
@@ -62,13 +38,13 @@ claim-columns-spec =
     Inv-loop
     μ-loop
     loop-holds
-    mul-grid
-    element-write-grid
-    mul-grid-2
-    add-grid
-    sub-grid
-    element-write-grid-2
-    add-y
-    loop-less
+    (λ c. search needs)
+    (λ c. search needs)
+    (λ c. search needs)
+    (λ c. search needs)
+    (λ c. search needs)
+    (λ c. search needs)
+    (λ c. search needs)
+    (λ c. search needs)
     loop-again
     returns)

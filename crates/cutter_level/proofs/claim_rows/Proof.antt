@@ -20,27 +20,6 @@ abbrev μ-loop : tie.MeasureT-loop
 loop-holds : tie.Need-loop-holds Inv-loop μ-loop
 loop-holds c = (omega arith, c .pre, refl)
 
-element-write-grid : tie.Need-element-write-grid Inv-loop μ-loop
-element-write-grid c = search needs
-
-sub-grid : tie.Need-sub-grid Inv-loop μ-loop
-sub-grid c = search needs
-
-mul-grid : tie.Need-mul-grid Inv-loop μ-loop
-mul-grid c = search needs
-
-add-grid : tie.Need-add-grid Inv-loop μ-loop
-add-grid c = search needs
-
-element-write-grid-2 : tie.Need-element-write-grid-2 Inv-loop μ-loop
-element-write-grid-2 c = search needs
-
-add-x : tie.Need-add-x Inv-loop μ-loop
-add-x c = search needs
-
-loop-less : tie.Need-loop-less Inv-loop μ-loop
-loop-less c = search needs
-
 loop-again : tie.Need-loop-again Inv-loop μ-loop
 unfolding claimRow
 loop-again c =
@@ -59,12 +38,12 @@ claim-rows-spec =
     Inv-loop
     μ-loop
     loop-holds
-    element-write-grid
-    sub-grid
-    mul-grid
-    add-grid
-    element-write-grid-2
-    add-x
-    loop-less
+    (λ c. search needs)
+    (λ c. search needs)
+    (λ c. search needs)
+    (λ c. search needs)
+    (λ c. search needs)
+    (λ c. search needs)
+    (λ c. search needs)
     loop-again
     returns)

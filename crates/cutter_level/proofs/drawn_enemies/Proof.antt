@@ -29,23 +29,14 @@ drawn-mover-requires c κs =
     let s = c .before .before .before in
     draws-each (now (s .args .draws)) (s .args .n) (c .before .loop .i) (s .pre) (omega arith)
 
-mul-out : tie.Need-mul-out Inv-loop μ-loop
-mul-out c = search needs
-
-array-set-from-out : tie.Need-array-set-from-out Inv-loop μ-loop
-array-set-from-out c = search needs
-
-add-i : tie.Need-add-i Inv-loop μ-loop
-add-i c = search needs
-
-loop-less : tie.Need-loop-less Inv-loop μ-loop
-loop-less c = search needs
-
 loop-again : tie.Need-loop-again Inv-loop μ-loop
 loop-again c =
     let k = c .before .before in
-    let s = k .before .before in
-    (omega arith, rw (c .drawn-mover .ensures, k .loop .inv .1) (table-more (k .loop .i) (drawnMover (now (s .args .draws))) (replicate MAX-ENEMIES blankSlot) blankSlot (omega (arith, s .pre))))
+    let s = k .before .before in (
+      omega arith,
+      rw (c .drawn-mover .ensures, k .loop .inv .1)
+          (table-more (k .loop .i) (drawnMover (now (s .args .draws))) (replicate MAX-ENEMIES blankSlot) blankSlot (omega (arith, s .pre))),
+    )
 
 returns : tie.Need-returns Inv-loop μ-loop
 returns c =
@@ -62,9 +53,9 @@ drawn-enemies-spec =
     μ-loop
     loop-holds
     drawn-mover-requires
-    mul-out
-    array-set-from-out
-    add-i
-    loop-less
+    (λ c. search needs)
+    (λ c. search needs)
+    (λ c. search needs)
+    (λ c. search needs)
     loop-again
     returns)

@@ -7,28 +7,10 @@ use Rattle.cutter_rules.proofs.Draws.{place-fits}
 use Rattle.cutter_level.proofs.drawn_mover.Statement.{statement}
 use Rattle.cutter_level.proofs.drawn_mover.Tie as tie
 
-draw-at-requires : tie.Need-draw-at-requires
-draw-at-requires c κs = search needs
-
-velocity-of-requires : tie.Need-velocity-of-requires
-velocity-of-requires c κs = search needs
-
-draw-at-requires-2 : tie.Need-draw-at-requires-2
-draw-at-requires-2 c κs = search needs
-
-velocity-of-requires-2 : tie.Need-velocity-of-requires-2
-velocity-of-requires-2 c κs = search needs
-
-draw-at-requires-3 : tie.Need-draw-at-requires-3
-draw-at-requires-3 c κs = search needs
-
 add-t6 : tie.Need-add-t6
 add-t6 c =
     let s = c .before .before .before .before .before .before in
     record { fits = omega (arith, c .draw-at3 .ensures, place-fits (now (s .args .draws)) (s .args .i) (s .pre .fit)) }
-
-draw-at-requires-4 : tie.Need-draw-at-requires-4
-draw-at-requires-4 c κs = search needs
 
 add-t8 : tie.Need-add-t8
 add-t8 c =
@@ -38,7 +20,10 @@ add-t8 c =
 returns : tie.Need-returns
 unfolding drawnMover
 returns c =
-    simp (kept (c .before .before .velocity-of2 .result) (c .before .before .velocity-of2 .ok), kept (c .before .before .before .before .velocity-of .result) (c .before .before .before .before .velocity-of .ok))
+    simp (
+      kept (c .before .before .velocity-of2 .result) (c .before .before .velocity-of2 .ok),
+      kept (c .before .before .before .before .velocity-of .result) (c .before .before .before .before .velocity-of .ok),
+    )
     (simp (
       c .draw-at4 .ensures,
       c .before .draw-at3 .ensures,
@@ -52,12 +37,12 @@ pub drawn-mover-spec : {M : Type 1} → statement M
 drawn-mover-spec =
     tie.close
     (tie.spec
-    draw-at-requires
-    velocity-of-requires
-    draw-at-requires-2
-    velocity-of-requires-2
-    draw-at-requires-3
+    (λ c κs. search needs)
+    (λ c κs. search needs)
+    (λ c κs. search needs)
+    (λ c κs. search needs)
+    (λ c κs. search needs)
     add-t6
-    draw-at-requires-4
+    (λ c κs. search needs)
     add-t8
     returns)

@@ -17,9 +17,6 @@ Inv-loop draws n ok₀ i₀ ok i = (i ≤ n) × (length draws ≡ DRAWS-EACH * n
 abbrev μ-loop : tie.MeasureT-loop
 μ-loop draws n ok₀ i₀ ok i = n - i
 
-mul-if1 : tie.Need-mul-if1 Inv-loop μ-loop
-mul-if1 c = search needs
-
 returns : tie.Need-returns Inv-loop μ-loop
 unfolding drawsOk
 returns c =
@@ -31,12 +28,6 @@ loop-holds c = (omega arith, omega (arith, c .if1 .left), refl)
 
 in-range-requires : tie.Need-in-range-requires Inv-loop μ-loop
 in-range-requires c κs = omega arith
-
-add-i : tie.Need-add-i Inv-loop μ-loop
-add-i c = search needs
-
-loop-less : tie.Need-loop-less Inv-loop μ-loop
-loop-less c = search needs
 
 loop-again : tie.Need-loop-again Inv-loop μ-loop
 loop-again c =
@@ -57,11 +48,11 @@ draws-ok-spec =
     (tie.spec
     Inv-loop
     μ-loop
-    mul-if1
+    (λ c. search needs)
     returns
     loop-holds
     in-range-requires
-    add-i
-    loop-less
+    (λ c. search needs)
+    (λ c. search needs)
     loop-again
     returns-2)

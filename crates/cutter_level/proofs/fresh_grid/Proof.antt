@@ -8,9 +8,6 @@ use Rattle.cutter_level.proofs.Ring.{ring-claimed, rows-length}
 use Rattle.cutter_level.proofs.fresh_grid.Statement.{statement}
 use Rattle.cutter_level.proofs.fresh_grid.Tie as tie
 
-claim-rows-requires : tie.Need-claim-rows-requires
-claim-rows-requires c κs = search needs
-
 claim-columns-requires : tie.Need-claim-columns-requires
 claim-columns-requires c κs = ap length (c .before .claim-rows .ensures) ∙ rows-length
 
@@ -19,4 +16,4 @@ returns c =
     c .claim-columns .ensures ∙ ap (across claimColumn CH 0) (c .before .before .claim-rows .ensures) ∙ ring-claimed
 
 pub fresh-grid-spec : {M : Type 1} → statement M
-fresh-grid-spec = tie.close (tie.spec claim-rows-requires claim-columns-requires returns)
+fresh-grid-spec = tie.close (tie.spec (λ c κs. search needs) claim-columns-requires returns)

@@ -4,19 +4,10 @@ use Rattle.cutter_rules.proofs.Draws.{creatures-few}
 use Rattle.cutter_level.proofs.new_level.Statement.{statement}
 use Rattle.cutter_level.proofs.new_level.Tie as tie
 
-creatures-of-requires : tie.Need-creatures-of-requires
-creatures-of-requires c κs = search needs
-
 drawn-enemies-requires : tie.Need-drawn-enemies-requires
 drawn-enemies-requires c κs =
     let s = c .before .before in
     rw (c .creatures-of .ensures) (record { few = creatures-few (s .args .c .level); fit = s .pre })
-
-fresh-grid-requires : tie.Need-fresh-grid-requires
-fresh-grid-requires c κs = search needs
-
-at-start-requires : tie.Need-at-start-requires
-at-start-requires c κs = search needs
 
 returns : tie.Need-returns
 unfolding atStart freshLevel
@@ -27,8 +18,8 @@ pub new-level-spec : {M : Type 1} → statement M
 new-level-spec =
     tie.close
     (tie.spec
-    creatures-of-requires
+    (λ c κs. search needs)
     drawn-enemies-requires
-    fresh-grid-requires
-    at-start-requires
+    (λ c κs. search needs)
+    (λ c κs. search needs)
     returns)

@@ -30,7 +30,9 @@ add-tail : tie.Need-add-tail Inv-loop μ-loop
 add-tail c = omega (arith, ready-room (c .pre))
 
 -- the invariant, at the tables that came in
-inv : (c : tie.At-loop Inv-loop μ-loop) → Searching (now (c .before .args .grid)) (now (c .before .args .seen)) (now (c .before .args .queue)) (c .before .args .from) (c .before .args .start) (c .loop .seen) (c .loop .queue) (c .loop .head) (c .loop .tail)
+inv : (c : tie.At-loop Inv-loop μ-loop)
+    → Searching (now (c .before .args .grid)) (now (c .before .args .seen)) (now (c .before .args .queue)) (c .before .args .from) (c .before .args .start)
+    (c .loop .seen) (c .loop .queue) (c .loop .head) (c .loop .tail)
 inv c = search-back (rw (undo (c .before .pre)) at (c .loop .inv))
 
 loop-holds : tie.Need-loop-holds Inv-loop μ-loop

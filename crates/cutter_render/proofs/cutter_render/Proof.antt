@@ -11,9 +11,6 @@ use borrow.Author.Needs.{needs}
 use Rattle.cutter_render.proofs.cutter_render.Statement.{statement}
 use Rattle.cutter_render.proofs.cutter_render.Tie as tie
 
-draw-ground-requires : tie.Need-draw-ground-requires
-draw-ground-requires c κs = search needs
-
 draw-enemies-requires : tie.Need-draw-enemies-requires
 draw-enemies-requires c κs =
     let start = c .before .before .before .before .before .before .before .before .before in
@@ -30,31 +27,29 @@ draw-player-requires c κs =
     let h = holds-inside _ _ _ _ (start .pre .formed .player) in
     record { framed = rw (c .before .before .before .draw-enemies .ensures) (framed-pack _); across = h .0; down = h .1 }
 
-cast-draw-lives : tie.Need-cast-draw-lives
-cast-draw-lives c = search needs
-
 draw-lives-requires : tie.Need-draw-lives-requires
 draw-lives-requires c κs =
-    record { framed = rw (c .before .before .before .draw-player .ensures) (framed-pack _); few = c .before .before .before .before .before .before .before .before .before .before .before .before .before .before .before .before .before .pre .formed .lives }
-
-same-length : tie.Need-same-length
-same-length c = search needs
+    record {
+      framed = rw (c .before .before .before .draw-player .ensures) (framed-pack _);
+      few = c .before .before .before .before .before .before .before .before .before .before .before .before .before .before .before .before .before .pre .formed .lives;
+    }
 
 returns : tie.Need-returns
 returns c =
     let p = c .before .before .before .before .before .before in
     let e = p .before .before .before .before in
     let g = e .before .before .before .before .before in
-    whole (g .before .before .before .before .before .args .t1) _ _ _ _ (g .draw-ground .ensures) (e .draw-enemies .ensures) (p .draw-player .ensures) (c .before .before .draw-lives .ensures)
+    whole (g .before .before .before .before .before .args .t1) _ _ _ _ (g .draw-ground .ensures) (e .draw-enemies .ensures) (p .draw-player .ensures)
+    (c .before .before .draw-lives .ensures)
 
 pub cutter-render-spec : {M : Type 1} → statement M
 cutter-render-spec =
     tie.close
     (tie.spec
-    draw-ground-requires
+    (λ c κs. search needs)
     draw-enemies-requires
     draw-player-requires
-    cast-draw-lives
+    (λ c. search needs)
     draw-lives-requires
-    same-length
+    (λ c. search needs)
     returns)

@@ -28,25 +28,11 @@ loop-holds c = (omega arith, movers-none (now (c .before .args .frame)) (c .befo
 mul-e : tie.Need-mul-e Inv-loop μ-loop
 mul-e c = omega arith
 
-array-copy-out-e : tie.Need-array-copy-out-e Inv-loop μ-loop
-array-copy-out-e c = search needs
-
-cast-put-ink : tie.Need-cast-put-ink Inv-loop μ-loop
-cast-put-ink c = search needs
-
-mul-put-ink : tie.Need-mul-put-ink Inv-loop μ-loop
-mul-put-ink c = search needs
-
-cast-put-ink-2 : tie.Need-cast-put-ink-2 Inv-loop μ-loop
-cast-put-ink-2 c = search needs
-
-mul-put-ink-2 : tie.Need-mul-put-ink-2 Inv-loop μ-loop
-mul-put-ink-2 c = search needs
-
 put-ink-requires : tie.Need-put-ink-requires Inv-loop μ-loop
 put-ink-requires c κs =
     let start = c .before .before .before .before .before .before .before in
-    let h = on-panel (start .args .t2) (start .args .count) (c .before .before .before .before .before .loop .i) (record { x = 0; y = 0; vx = pos 0; vy = pos 0 }) refl (c .before .before .before .before .loop-test .taken) (start .pre .each) in
+    let h = on-panel (start .args .t2) (start .args .count) (c .before .before .before .before .before .loop .i) (record { x = 0; y = 0; vx = pos 0; vy = pos 0 }) refl
+    (c .before .before .before .before .loop-test .taken) (start .pre .each) in
     record { framed = rw (c .before .before .before .before .before .loop .inv .1) (framed-pack _); across = omega arith; down = omega arith }
 
 add-i : tie.Need-add-i Inv-loop μ-loop
@@ -79,11 +65,11 @@ draw-enemies-spec =
     μ-loop
     loop-holds
     mul-e
-    array-copy-out-e
-    cast-put-ink
-    mul-put-ink
-    cast-put-ink-2
-    mul-put-ink-2
+    (λ c. search needs)
+    (λ c. search needs)
+    (λ c. search needs)
+    (λ c. search needs)
+    (λ c. search needs)
     put-ink-requires
     add-i
     loop-less

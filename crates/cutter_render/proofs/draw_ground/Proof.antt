@@ -34,8 +34,12 @@ loop-less c = omega arith
 loop-again : tie.Need-loop-again Inv-loop μ-loop
 loop-again c =
     let page = c .before .before .ground-page .ensures in
-    let l = c .before .before .before .before .before .loop in
-    (omega arith, page .whole, page .next (now (c .before .before .before .before .before .before .before .args .frame)) (c .before .before .before .before .before .before .before .pre .whole) (l .inv .2))
+    let l = c .before .before .before .before .before .loop in (
+      omega arith,
+      page .whole,
+      page .next (now (c .before .before .before .before .before .before .before .args .frame))
+          (c .before .before .before .before .before .before .before .pre .whole) (l .inv .2),
+    )
 
 same-length : tie.Need-same-length Inv-loop μ-loop
 same-length c = let h = c .before .before .before .pre .whole in omega arith

@@ -9,23 +9,9 @@ use borrow.Author.Needs.{needs}
 use Rattle.cutter_render.proofs.draw_player.Statement.{statement}
 use Rattle.cutter_render.proofs.draw_player.Tie as tie
 
-mul-invert-column : tie.Need-mul-invert-column
-mul-invert-column c = search needs
-
-invert-column-requires : tie.Need-invert-column-requires
-invert-column-requires c κs = search needs
-
-mul-invert-column-2 : tie.Need-mul-invert-column-2
-mul-invert-column-2 c = search needs
-
-add-invert-column : tie.Need-add-invert-column
-add-invert-column c = search needs
-
 invert-column-requires-2 : tie.Need-invert-column-requires-2
-invert-column-requires-2 c κs = record { framed = rw (c .before .before .before .invert-column .ensures) (framed-pack _); across = omega arith; down = c .before .before .before .before .before .before .pre .down }
-
-same-length : tie.Need-same-length
-same-length c = search needs
+invert-column-requires-2 c κs = record
+    { framed = rw (c .before .before .before .invert-column .ensures) (framed-pack _); across = omega arith; down = c .before .before .before .before .before .before .pre .down }
 
 returns : tie.Need-returns
 returns c =
@@ -36,10 +22,10 @@ pub draw-player-spec : {M : Type 1} → statement M
 draw-player-spec =
     tie.close
     (tie.spec
-    mul-invert-column
-    invert-column-requires
-    mul-invert-column-2
-    add-invert-column
+    (λ c. search needs)
+    (λ c κs. search needs)
+    (λ c. search needs)
+    (λ c. search needs)
     invert-column-requires-2
-    same-length
+    (λ c. search needs)
     returns)

@@ -11,7 +11,8 @@ use Rattle.cutter_render.proofs.ground_page.Statement.{statement}
 use Rattle.cutter_render.proofs.ground_page.Tie as tie
 
 abbrev Inv-loop : tie.InvT-loop
-Inv-loop frame₀ grid p cx₀ frame cx = (cx ≤ 64) × (length frame ≡ 1024) × ((old : List ℕ) → length old ≡ 1024 → frame₀ ≡ grounded grid (p * 128) old → frame ≡ grounded grid (p * 128 + 2 * cx) old)
+Inv-loop frame₀ grid p cx₀ frame cx = (cx ≤ 64) × (length frame ≡ 1024) ×
+    ((old : List ℕ) → length old ≡ 1024 → frame₀ ≡ grounded grid (p * 128) old → frame ≡ grounded grid (p * 128 + 2 * cx) old)
 
 abbrev μ-loop : tie.MeasureT-loop
 μ-loop frame₀ grid p cx₀ frame cx = 64 - cx

@@ -12,23 +12,11 @@ use borrow.Author.Needs.{needs}
 use Rattle.cutter_render.proofs.invert_column.Statement.{statement}
 use Rattle.cutter_render.proofs.invert_column.Tie as tie
 
-mul-at : tie.Need-mul-at
-mul-at c = search needs
-
-add-at : tie.Need-add-at
-add-at c = search needs
-
-cell-mask-requires : tie.Need-cell-mask-requires
-cell-mask-requires c κs = search needs
-
 slice-read-frame : tie.Need-slice-read-frame
 slice-read-frame c = let e = length-framed _ (c .before .before .before .pre .framed) in omega arith
 
 slice-write-frame : tie.Need-slice-write-frame
 slice-write-frame c = let e = length-framed _ (c .before .before .before .pre .framed) in omega arith
-
-same-length : tie.Need-same-length
-same-length c = search needs
 
 returns : tie.Need-returns
 returns c =
@@ -43,10 +31,10 @@ pub invert-column-spec : {M : Type 1} → statement M
 invert-column-spec =
     tie.close
     (tie.spec
-    mul-at
-    add-at
-    cell-mask-requires
+    (λ c. search needs)
+    (λ c. search needs)
+    (λ c κs. search needs)
     slice-read-frame
     slice-write-frame
-    same-length
+    (λ c. search needs)
     returns)

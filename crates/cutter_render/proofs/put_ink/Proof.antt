@@ -12,23 +12,11 @@ use borrow.Author.Needs.{needs}
 use Rattle.cutter_render.proofs.put_ink.Statement.{statement}
 use Rattle.cutter_render.proofs.put_ink.Tie as tie
 
-mul-at : tie.Need-mul-at
-mul-at c = search needs
-
-add-at : tie.Need-add-at
-add-at c = search needs
-
-dot-requires : tie.Need-dot-requires
-dot-requires c κs = search needs
-
 slice-read-frame : tie.Need-slice-read-frame
 slice-read-frame c = let e = length-framed _ (c .before .before .before .pre .framed) in omega arith
 
 slice-write-frame : tie.Need-slice-write-frame
 slice-write-frame c = let e = length-framed _ (c .before .before .before .pre .framed) in omega arith
-
-same-length : tie.Need-same-length
-same-length c = search needs
 
 returns : tie.Need-returns
 returns c =
@@ -42,4 +30,4 @@ returns c =
 pub put-ink-spec : {M : Type 1} → statement M
 put-ink-spec =
     tie.close
-    (tie.spec mul-at add-at dot-requires slice-read-frame slice-write-frame same-length returns)
+    (tie.spec (λ c. search needs) (λ c. search needs) (λ c κs. search needs) slice-read-frame slice-write-frame (λ c. search needs) returns)

@@ -14,15 +14,6 @@ use borrow.Author.Needs.{needs}
 use Rattle.cutter_sweeps.proofs.lower_by.Statement.{statement}
 use Rattle.cutter_sweeps.proofs.lower_by.Tie as tie
 
-element-copy-out-if2 : tie.Need-element-copy-out-if2
-element-copy-out-if2 c = search needs
-
-mul-n : tie.Need-mul-n
-mul-n c = search needs
-
-element-copy-out-n : tie.Need-element-copy-out-n
-element-copy-out-n c = search needs
-
 -- the black cell's number counts
 counts : (g L : List ℕ) (d v : ℕ) → Numbers g L → d < CN → getD g d 0 ≡ 0 → lower g L d v ≡ min (getD L d 0) v
 counts g L d v n i e =
@@ -56,4 +47,4 @@ returns-4 c =
 pub lower-by-spec : {M : Type 1} → statement M
 lower-by-spec =
     tie.close
-    (tie.spec element-copy-out-if2 mul-n element-copy-out-n returns returns-2 returns-3 returns-4)
+    (tie.spec (λ c. search needs) (λ c. search needs) (λ c. search needs) returns returns-2 returns-3 returns-4)

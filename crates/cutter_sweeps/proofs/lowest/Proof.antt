@@ -8,24 +8,6 @@ use borrow.Author.Needs.{needs}
 use Rattle.cutter_sweeps.proofs.lowest.Statement.{statement}
 use Rattle.cutter_sweeps.proofs.lowest.Tie as tie
 
-mul-v : tie.Need-mul-v
-mul-v c = search needs
-
-element-copy-out-v : tie.Need-element-copy-out-v
-element-copy-out-v c = search needs
-
-left-of-requires : tie.Need-left-of-requires
-left-of-requires c κs = search needs
-
-right-of-requires : tie.Need-right-of-requires
-right-of-requires c κs = search needs
-
-up-of-requires : tie.Need-up-of-requires
-up-of-requires c κs = search needs
-
-down-of-requires : tie.Need-down-of-requires
-down-of-requires c κs = search needs
-
 lower-by-requires : tie.Need-lower-by-requires
 lower-by-requires c κs = search needs
 
@@ -55,12 +37,12 @@ pub lowest-spec : {M : Type 1} → statement M
 lowest-spec =
     tie.close
     (tie.spec
-    mul-v
-    element-copy-out-v
-    left-of-requires
-    right-of-requires
-    up-of-requires
-    down-of-requires
+    (λ c. search needs)
+    (λ c. search needs)
+    (λ c κs. search needs)
+    (λ c κs. search needs)
+    (λ c κs. search needs)
+    (λ c κs. search needs)
     lower-by-requires
     lower-by-requires-2
     lower-by-requires-3

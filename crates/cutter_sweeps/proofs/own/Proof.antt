@@ -3,9 +3,6 @@ use borrow.Author.Needs.{needs}
 use Rattle.cutter_sweeps.proofs.own.Statement.{statement}
 use Rattle.cutter_sweeps.proofs.own.Tie as tie
 
-cast-result : tie.Need-cast-result
-cast-result c = search needs
-
 returns : tie.Need-returns
 returns c = rw (eq-eqb _ _ (c .if1 .taken))
 
@@ -13,4 +10,4 @@ returns-2 : tie.Need-returns-2
 returns-2 c = rw (ne-eqb _ _ (c .if1 .left))
 
 pub own-spec : {M : Type 1} → statement M
-own-spec = tie.close (tie.spec cast-result returns returns-2)
+own-spec = tie.close (tie.spec (λ c. search needs) returns returns-2)

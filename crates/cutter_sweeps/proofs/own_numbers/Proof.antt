@@ -22,27 +22,6 @@ abbrev μ-loop : tie.MeasureT-loop
 loop-holds : tie.Need-loop-holds Inv-loop μ-loop
 loop-holds c = (omega arith, c .pre .len, table-none _ _)
 
-element-copy-out-own : tie.Need-element-copy-out-own Inv-loop μ-loop
-element-copy-out-own c = search needs
-
-cast-own : tie.Need-cast-own Inv-loop μ-loop
-cast-own c = search needs
-
-own-requires : tie.Need-own-requires Inv-loop μ-loop
-own-requires c κs = search needs
-
-mul-nums : tie.Need-mul-nums Inv-loop μ-loop
-mul-nums c = search needs
-
-element-write-nums : tie.Need-element-write-nums Inv-loop μ-loop
-element-write-nums c = search needs
-
-add-i : tie.Need-add-i Inv-loop μ-loop
-add-i c = search needs
-
-loop-less : tie.Need-loop-less Inv-loop μ-loop
-loop-less c = search needs
-
 loop-again : tie.Need-loop-again Inv-loop μ-loop
 loop-again c =
     let a = c .before .before .before in
@@ -68,12 +47,12 @@ own-numbers-spec =
     Inv-loop
     μ-loop
     loop-holds
-    element-copy-out-own
-    cast-own
-    own-requires
-    mul-nums
-    element-write-nums
-    add-i
-    loop-less
+    (λ c. search needs)
+    (λ c. search needs)
+    (λ c κs. search needs)
+    (λ c. search needs)
+    (λ c. search needs)
+    (λ c. search needs)
+    (λ c. search needs)
     loop-again
     returns)

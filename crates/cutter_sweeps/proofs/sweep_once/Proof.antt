@@ -20,34 +20,13 @@ abbrev μ-loop : tie.MeasureT-loop
 loop-holds : tie.Need-loop-holds Inv-loop μ-loop
 loop-holds c = sweeping-start (c .pre)
 
-element-copy-out-if1 : tie.Need-element-copy-out-if1 Inv-loop μ-loop
-element-copy-out-if1 c = search needs
-
 lowest-requires : tie.Need-lowest-requires Inv-loop μ-loop
 lowest-requires c κs =
     let a = c .before .before .before .before in
     record { numbers = record { cells = a .before .pre .cells; len = a .loop .inv .len }; inside = omega (arith, c .before .before .before .loop-test) }
 
-mul-if2 : tie.Need-mul-if2 Inv-loop μ-loop
-mul-if2 c = search needs
-
-element-copy-out-if2 : tie.Need-element-copy-out-if2 Inv-loop μ-loop
-element-copy-out-if2 c = search needs
-
-mul-nums : tie.Need-mul-nums Inv-loop μ-loop
-mul-nums c = search needs
-
-element-write-nums : tie.Need-element-write-nums Inv-loop μ-loop
-element-write-nums c = search needs
-
 add-changed : tie.Need-add-changed Inv-loop μ-loop
 add-changed c = let a = c .before .before .before .before .before .before .before in omega (arith, a .loop .inv .few, c .before .before .before .before .before .before .loop-test)
-
-add-at : tie.Need-add-at Inv-loop μ-loop
-add-at c = search needs
-
-loop-less : tie.Need-loop-less Inv-loop μ-loop
-loop-less c = search needs
 
 loop-again : tie.Need-loop-again Inv-loop μ-loop
 loop-again c =
@@ -76,14 +55,14 @@ sweep-once-spec =
     Inv-loop
     μ-loop
     loop-holds
-    element-copy-out-if1
+    (λ c. search needs)
     lowest-requires
-    mul-if2
-    element-copy-out-if2
-    mul-nums
-    element-write-nums
+    (λ c. search needs)
+    (λ c. search needs)
+    (λ c. search needs)
+    (λ c. search needs)
     add-changed
-    add-at
-    loop-less
+    (λ c. search needs)
+    (λ c. search needs)
     loop-again
     returns)

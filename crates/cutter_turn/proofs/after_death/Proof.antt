@@ -12,12 +12,6 @@ use Rattle.cutter_pass.specs.Pass.{hurt, still, afterDeath}
 use Rattle.cutter_turn.proofs.after_death.Statement.{statement}
 use Rattle.cutter_turn.proofs.after_death.Tie as tie
 
-lose-life-requires : tie.Need-lose-life-requires
-lose-life-requires c κs = search needs
-
-turn-requires : tie.Need-turn-requires
-turn-requires c κs = search needs
-
 returns : tie.Need-returns
 unfolding afterDeath
 returns c =
@@ -25,12 +19,6 @@ returns c =
     let a = k .before .args in
     let over : eqb (hurt (a .c) .lives) 0 ≡ true = ap (λ (s : Cutter). eqb (s .lives) 0) (sym (k .«lose-life» .ensures)) ∙ eq-eqb _ 0 (c .before .if1 .taken) in
     rw over (c .turn .ensures ∙ ap (still (a .first) (a .second) NONE Over) (k .«lose-life» .ensures))
-
-respawn-requires : tie.Need-respawn-requires
-respawn-requires c κs = search needs
-
-turn-requires-2 : tie.Need-turn-requires-2
-turn-requires-2 c κs = search needs
 
 returns-2 : tie.Need-returns-2
 unfolding afterDeath
@@ -44,9 +32,9 @@ pub after-death-spec : {M : Type 1} → statement M
 after-death-spec =
     tie.close
     (tie.spec
-    lose-life-requires
-    turn-requires
+    (λ c κs. search needs)
+    (λ c κs. search needs)
     returns
-    respawn-requires
-    turn-requires-2
+    (λ c κs. search needs)
+    (λ c κs. search needs)
     returns-2)

@@ -11,25 +11,14 @@ use Rattle.cutter_turn.proofs.after_keys.Statement.{statement}
 use Rattle.cutter_turn.proofs.after_keys.Tie as tie
 use Rattle.controls.specs.Keys.{Played}
 
-play-requires : tie.Need-play-requires
-play-requires c κs = search needs
-
-press-requires : tie.Need-press-requires
-press-requires c κs = search needs
-
-turn-requires : tie.Need-turn-requires
-turn-requires c κs = search needs
-
 returns : tie.Need-returns
 returns c =
     let q = c .before .before in
     let p = q .before in
     let a = p .before .before .args in
-    let all : _≡_ {A = Played Cutter} (record { quit = p .play .result .quit; game = q .press .result }) (played (a .c) (a .keys .now)) = ap (λ (g : Cutter). record { quit = p .play .result .quit; game = g }) (q .press .ensures) ∙ p .play .ensures (a .c) in
+    let all : _≡_ {A = Played Cutter} (record { quit = p .play .result .quit; game = q .press .result }) (played (a .c) (a .keys .now)) = ap
+    (λ (g : Cutter). record { quit = p .play .result .quit; game = g }) (q .press .ensures) ∙ p .play .ensures (a .c) in
     c .turn .ensures ∙ after-quit (a .first) (a .second) (a .time) _ (c .before .if1 .taken) ∙ ap (afterKeys (a .first) (a .second) (a .time)) all
-
-both-ticks-requires : tie.Need-both-ticks-requires
-both-ticks-requires c κs = search needs
 
 step-if-requires : tie.Need-step-if-requires
 step-if-requires c κs =
@@ -44,16 +33,14 @@ enemies-if-requires c κs =
     let w = subst WellFormed (sym (q .press .ensures)) (key-kept (s .args .c) (q .before .play .result .key) (s .pre) .formed) in
     rw (c .«step-if» .ensures) (moved-formed _ (c .before .«both-ticks» .result .one) w)
 
-turn-requires-2 : tie.Need-turn-requires-2
-turn-requires-2 c κs = search needs
-
 returns-2 : tie.Need-returns-2
 returns-2 c =
     let t = c .before .before .before in
     let q = t .before .before in
     let p = q .before in
     let a = p .before .before .args in
-    let all : _≡_ {A = Played Cutter} (record { quit = p .play .result .quit; game = q .press .result }) (played (a .c) (a .keys .now)) = ap (λ (g : Cutter). record { quit = p .play .result .quit; game = g }) (q .press .ensures) ∙ p .play .ensures (a .c) in
+    let all : _≡_ {A = Played Cutter} (record { quit = p .play .result .quit; game = q .press .result }) (played (a .c) (a .keys .now)) = ap
+    (λ (g : Cutter). record { quit = p .play .result .quit; game = g }) (q .press .ensures) ∙ p .play .ensures (a .c) in
     c .turn2 .ensures
     ∙ after-ticks (a .first) (a .second) (a .time) _ (t .before .if1 .left) (t .«both-ticks» .ensures) (c .before .before .«step-if» .ensures) (c .before .«enemies-if» .ensures)
     ∙ ap (afterKeys (a .first) (a .second) (a .time)) all
@@ -62,12 +49,12 @@ pub after-keys-spec : {M : Type 1} → statement M
 after-keys-spec =
     tie.close
     (tie.spec
-    play-requires
-    press-requires
-    turn-requires
+    (λ c κs. search needs)
+    (λ c κs. search needs)
+    (λ c κs. search needs)
     returns
-    both-ticks-requires
+    (λ c κs. search needs)
     step-if-requires
     enemies-if-requires
-    turn-requires-2
+    (λ c κs. search needs)
     returns-2)

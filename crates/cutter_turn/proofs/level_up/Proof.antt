@@ -4,15 +4,9 @@ use Rattle.cutter_pass.specs.Pass.{nextLevel}
 use Rattle.cutter_turn.proofs.level_up.Statement.{statement}
 use Rattle.cutter_turn.proofs.level_up.Tie as tie
 
-add-out : tie.Need-add-out
-add-out c = search needs
-
-new-level-requires : tie.Need-new-level-requires
-new-level-requires c κs = search needs
-
 returns : tie.Need-returns
 unfolding nextLevel
 returns c = c .«new-level» .ensures
 
 pub level-up-spec : {M : Type 1} → statement M
-level-up-spec = tie.close (tie.spec add-out new-level-requires returns)
+level-up-spec = tie.close (tie.spec (λ c. search needs) (λ c κs. search needs) returns)

@@ -4,12 +4,9 @@ use Rattle.cutter_pass.specs.Pass.{hurt}
 use Rattle.cutter_turn.proofs.lose_life.Statement.{statement}
 use Rattle.cutter_turn.proofs.lose_life.Tie as tie
 
-one-less-requires : tie.Need-one-less-requires
-one-less-requires c κs = search needs
-
 returns : tie.Need-returns
 unfolding hurt
 returns c = rw (c .«one-less» .ensures)
 
 pub lose-life-spec : {M : Type 1} → statement M
-lose-life-spec = tie.close (tie.spec one-less-requires returns)
+lose-life-spec = tie.close (tie.spec (λ c κs. search needs) returns)

@@ -9,20 +9,11 @@ use Rattle.cutter_pass.proofs.Answers.{on-dead, on-level, on-keys, refused-pass
 use Rattle.cutter_turn.proofs.pass_at.Statement.{statement}
 use Rattle.cutter_turn.proofs.pass_at.Tie as tie
 
-refusal-of-requires : tie.Need-refusal-of-requires
-refusal-of-requires c κs = search needs
-
-turn-requires : tie.Need-turn-requires
-turn-requires c κs = search needs
-
 returns : tie.Need-returns
 returns c =
     let k = c .before .before in
     let a = k .before .before .before .args in
     c .turn .ensures ∙ refused-pass (a .c) (a .keys .now) (a .draws .now) (a .time) (a .first) (a .second) (k .«refusal-of» .ensures) (c .before .if1 .taken)
-
-after-death-requires : tie.Need-after-death-requires
-after-death-requires c κs = search needs
 
 returns-2 : tie.Need-returns-2
 returns-2 c =
@@ -30,7 +21,8 @@ returns-2 c =
     let k = z .before in
     let a = k .before .before .before .args in
     c .«after-death» .ensures
-    ∙ played-pass (a .c) (a .keys .now) (a .draws .now) (a .time) (a .first) (a .second) (k .«refusal-of» .ensures) (z .if1 .left) (on-dead (a .c) (a .keys .now) (a .draws .now) (a .time) (a .first) (a .second) (c .before .if2 .taken))
+    ∙ played-pass (a .c) (a .keys .now) (a .draws .now) (a .time) (a .first) (a .second) (k .«refusal-of» .ensures) (z .if1 .left)
+    (on-dead (a .c) (a .keys .now) (a .draws .now) (a .time) (a .first) (a .second) (c .before .if2 .taken))
 
 level-up-requires : tie.Need-level-up-requires
 level-up-requires c κs =
@@ -39,9 +31,6 @@ level-up-requires c κs =
     let a = k .before .before .before .args in
     pass-level (a .c) (a .draws .now) (sym (k .«refusal-of» .ensures) ∙ z .if1 .left) (c .before .if2 .left) (c .if3 .taken)
 
-turn-requires-2 : tie.Need-turn-requires-2
-turn-requires-2 c κs = search needs
-
 returns-3 : tie.Need-returns-3
 returns-3 c =
     let d = c .before .before .before in
@@ -49,7 +38,8 @@ returns-3 c =
     let a = k .before .before .before .args in
     c .turn2 .ensures
     ∙ ap (still (a .first) (a .second) NONE GoingOn) (c .before .«level-up» .ensures)
-    ∙ played-pass (a .c) (a .keys .now) (a .draws .now) (a .time) (a .first) (a .second) (k .«refusal-of» .ensures) (d .before .if1 .left) (on-level (a .c) (a .keys .now) (a .draws .now) (a .time) (a .first) (a .second) (d .if2 .left) (c .before .before .if3 .taken))
+    ∙ played-pass (a .c) (a .keys .now) (a .draws .now) (a .time) (a .first) (a .second) (k .«refusal-of» .ensures) (d .before .if1 .left)
+    (on-level (a .c) (a .keys .now) (a .draws .now) (a .time) (a .first) (a .second) (d .if2 .left) (c .before .before .if3 .taken))
 
 after-keys-requires : tie.Need-after-keys-requires
 after-keys-requires c κs =
@@ -64,19 +54,20 @@ returns-4 c =
     let k = d .before .before in
     let a = k .before .before .before .args in
     c .«after-keys» .ensures
-    ∙ played-pass (a .c) (a .keys .now) (a .draws .now) (a .time) (a .first) (a .second) (k .«refusal-of» .ensures) (d .before .if1 .left) (on-keys (a .c) (a .keys .now) (a .draws .now) (a .time) (a .first) (a .second) (d .if2 .left) (c .before .if3 .left))
+    ∙ played-pass (a .c) (a .keys .now) (a .draws .now) (a .time) (a .first) (a .second) (k .«refusal-of» .ensures) (d .before .if1 .left)
+    (on-keys (a .c) (a .keys .now) (a .draws .now) (a .time) (a .first) (a .second) (d .if2 .left) (c .before .if3 .left))
 
 pub pass-at-spec : {M : Type 1} → statement M
 pass-at-spec =
     tie.close
     (tie.spec
-    refusal-of-requires
-    turn-requires
+    (λ c κs. search needs)
+    (λ c κs. search needs)
     returns
-    after-death-requires
+    (λ c κs. search needs)
     returns-2
     level-up-requires
-    turn-requires-2
+    (λ c κs. search needs)
     returns-3
     after-keys-requires
     returns-4)

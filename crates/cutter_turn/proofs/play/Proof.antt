@@ -34,9 +34,6 @@ returns c =
 add-i : tie.Need-add-i Inv-loop μ-loop
 add-i c = omega arith
 
-is-way-requires : tie.Need-is-way-requires Inv-loop μ-loop
-is-way-requires c κs = search needs
-
 loop-less : tie.Need-loop-less Inv-loop μ-loop
 loop-less c = omega arith
 
@@ -44,8 +41,11 @@ loop-again : tie.Need-loop-again Inv-loop μ-loop
 loop-again c =
     let w = c .before in
     let k = w .before .before .before .before in
-    let keys = k .before .before .args .keys .now in
-    (omega arith, keys-way keys (k .loop .last) (k .loop .i) (k .loop .inv .1) (drop-one keys (k .loop .i) 0 (omega arith)) (ne-eqb _ KEY-QUIT (w .before .if1 .left)) (sym (w .«is-way» .ensures) ∙ c .if2 .taken))
+    let keys = k .before .before .args .keys .now in (
+      omega arith,
+      keys-way keys (k .loop .last) (k .loop .i) (k .loop .inv .1) (drop-one keys (k .loop .i) 0 (omega arith)) (ne-eqb _ KEY-QUIT (w .before .if1 .left))
+          (sym (w .«is-way» .ensures) ∙ c .if2 .taken),
+    )
 
 loop-less-2 : tie.Need-loop-less-2 Inv-loop μ-loop
 loop-less-2 c = omega arith
@@ -54,8 +54,11 @@ loop-again-2 : tie.Need-loop-again-2 Inv-loop μ-loop
 loop-again-2 c =
     let w = c .before in
     let k = w .before .before .before .before in
-    let keys = k .before .before .args .keys .now in
-    (omega arith, keys-other keys (k .loop .last) (k .loop .i) (k .loop .inv .1) (drop-one keys (k .loop .i) 0 (omega arith)) (ne-eqb _ KEY-QUIT (w .before .if1 .left)) (sym (w .«is-way» .ensures) ∙ c .if2 .left))
+    let keys = k .before .before .args .keys .now in (
+      omega arith,
+      keys-other keys (k .loop .last) (k .loop .i) (k .loop .inv .1) (drop-one keys (k .loop .i) 0 (omega arith)) (ne-eqb _ KEY-QUIT (w .before .if1 .left))
+          (sym (w .«is-way» .ensures) ∙ c .if2 .left),
+    )
 
 returns-2 : tie.Need-returns-2 Inv-loop μ-loop
 returns-2 c =
@@ -73,7 +76,7 @@ play-spec =
     shared-slice-read-key
     returns
     add-i
-    is-way-requires
+    (λ c κs. search needs)
     loop-less
     loop-again
     loop-less-2

@@ -6,18 +6,6 @@ use Rattle.cutter_turn.proofs.press.Statement.{statement}
 use Rattle.cutter_turn.proofs.press.Tie as tie
 use Rattle.controls.specs.Keys.{keyedBy}
 
-direction-requires : tie.Need-direction-requires
-direction-requires c κs = search needs
-
-direction-requires-2 : tie.Need-direction-requires-2
-direction-requires-2 c κs = search needs
-
-direction-requires-3 : tie.Need-direction-requires-3
-direction-requires-3 c κs = search needs
-
-direction-requires-4 : tie.Need-direction-requires-4
-direction-requires-4 c κs = search needs
-
 returns : tie.Need-returns
 unfolding keyedBy
 returns c = rw (c .before .match .keys1) (c .«direction» .ensures)
@@ -44,10 +32,10 @@ pub press-spec : {M : Type 1} → statement M
 press-spec =
     tie.close
     (tie.spec
-    direction-requires
-    direction-requires-2
-    direction-requires-3
-    direction-requires-4
+    (λ c κs. search needs)
+    (λ c κs. search needs)
+    (λ c κs. search needs)
+    (λ c κs. search needs)
     returns
     returns-2
     returns-3

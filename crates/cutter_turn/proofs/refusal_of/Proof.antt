@@ -13,15 +13,9 @@ use Rattle.cutter_state.proofs.Facts.{accepted}
 use Rattle.cutter_turn.proofs.refusal_of.Statement.{statement}
 use Rattle.cutter_turn.proofs.refusal_of.Tie as tie
 
-check-requires : tie.Need-check-requires
-check-requires c κs = search needs
-
 returns : tie.Need-returns
 unfolding passRefusal
 returns c = let e = c .before .check .ensures in e ∙ sym (then-first (refusalOf (c .before .before .before .args .c)) _ (λ z. c .if1 .taken (e ∙ z)))
-
-level-due-requires : tie.Need-level-due-requires
-level-due-requires c κs = search needs
 
 returns-2 : tie.Need-returns-2
 unfolding passRefusal levelRefusal
@@ -35,12 +29,6 @@ add-creatures-of c =
     let w = accepted (l .before .before .before .before .args .c) (sym (l .before .before .check .ensures) ∙ l .before .if1 .left) in
     omega (arith, w .level .1)
 
-creatures-of-requires : tie.Need-creatures-of-requires
-creatures-of-requires c κs = search needs
-
-draws-ok-requires : tie.Need-draws-ok-requires
-draws-ok-requires c κs = search needs
-
 returns-3 : tie.Need-returns-3
 unfolding passRefusal levelRefusal
 returns-3 c =
@@ -48,7 +36,8 @@ returns-3 c =
     let f = d .before .before .before in
     let l = f .before .before .before in
     let a = l .before .before .before .before .args in
-    let ok : drawsOk (a .draws .now) (creaturesOf (a .c .level + 1)) ≡ true = ap (drawsOk (a .draws .now)) (sym (d .before .«creatures-of» .ensures)) ∙ sym (d .«draws-ok» .ensures) ∙ c .if4 .taken in
+    let ok : drawsOk (a .draws .now) (creaturesOf (a .c .level + 1)) ≡ true = ap (drawsOk (a .draws .now)) (sym (d .before .«creatures-of» .ensures))
+    ∙ sym (d .«draws-ok» .ensures) ∙ c .if4 .taken in
     rw (sym (l .before .before .check .ensures) ∙ l .before .if1 .left, sym (l .«level-due» .ensures) ∙ f .before .before .if2 .taken, ne-eqb _ MAX-LEVEL (f .if3 .left), ok)
 
 returns-4 : tie.Need-returns-4
@@ -58,7 +47,8 @@ returns-4 c =
     let f = d .before .before .before in
     let l = f .before .before .before in
     let a = l .before .before .before .before .args in
-    let no : drawsOk (a .draws .now) (creaturesOf (a .c .level + 1)) ≡ false = ap (drawsOk (a .draws .now)) (sym (d .before .«creatures-of» .ensures)) ∙ sym (d .«draws-ok» .ensures) ∙ c .if4 .left in
+    let no : drawsOk (a .draws .now) (creaturesOf (a .c .level + 1)) ≡ false = ap (drawsOk (a .draws .now)) (sym (d .before .«creatures-of» .ensures))
+    ∙ sym (d .«draws-ok» .ensures) ∙ c .if4 .left in
     rw (sym (l .before .before .check .ensures) ∙ l .before .if1 .left, sym (l .«level-due» .ensures) ∙ f .before .before .if2 .taken, ne-eqb _ MAX-LEVEL (f .if3 .left), no)
 
 returns-5 : tie.Need-returns-5
@@ -77,13 +67,13 @@ pub refusal-of-spec : {M : Type 1} → statement M
 refusal-of-spec =
     tie.close
     (tie.spec
-    check-requires
+    (λ c κs. search needs)
     returns
-    level-due-requires
+    (λ c κs. search needs)
     returns-2
     add-creatures-of
-    creatures-of-requires
-    draws-ok-requires
+    (λ c κs. search needs)
+    (λ c κs. search needs)
     returns-3
     returns-4
     returns-5

@@ -10,25 +10,21 @@ use Rattle.cutter_turn.proofs.score.Statement.{statement}
 use Rattle.cutter_turn.proofs.score.Tie as tie
 use Rattle.cutter_state.specs.State.{blackIn}
 
-black-count-requires : tie.Need-black-count-requires
-black-count-requires c κs = search needs
-
-cast-black : tie.Need-cast-black
-cast-black c = search needs
-
 returns : tie.Need-returns
 unfolding scored
 returns c =
     let b = c .before in
-    let few : ltb (blackIn (b .before .before .before .args .t1)) CLEAR-BELOW ≡ true = ap (λ (n : ℕ). ltb n CLEAR-BELOW) (sym (b .«black-count» .ensures)) ∙ lt-ltb _ CLEAR-BELOW (c .if1 .taken) in
+    let few : ltb (blackIn (b .before .before .before .args .t1)) CLEAR-BELOW ≡ true = ap (λ (n : ℕ). ltb n CLEAR-BELOW) (sym (b .«black-count» .ensures))
+    ∙ lt-ltb _ CLEAR-BELOW (c .if1 .taken) in
     rw few
 
 returns-2 : tie.Need-returns-2
 unfolding scored
 returns-2 c =
     let b = c .before in
-    let many : ltb (blackIn (b .before .before .before .args .t1)) CLEAR-BELOW ≡ false = ap (λ (n : ℕ). ltb n CLEAR-BELOW) (sym (b .«black-count» .ensures)) ∙ le-ltb _ CLEAR-BELOW (c .if1 .left) in
+    let many : ltb (blackIn (b .before .before .before .args .t1)) CLEAR-BELOW ≡ false = ap (λ (n : ℕ). ltb n CLEAR-BELOW) (sym (b .«black-count» .ensures))
+    ∙ le-ltb _ CLEAR-BELOW (c .if1 .left) in
     rw many
 
 pub score-spec : {M : Type 1} → statement M
-score-spec = tie.close (tie.spec black-count-requires cast-black returns returns-2)
+score-spec = tie.close (tie.spec (λ c κs. search needs) (λ c. search needs) returns returns-2)

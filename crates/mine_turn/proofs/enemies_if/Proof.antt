@@ -4,9 +4,6 @@ use borrow.Author.Needs.{needs}
 use Rattle.mine_turn.proofs.enemies_if.Statement.{statement}
 use Rattle.mine_turn.proofs.enemies_if.Tie as tie
 
-tick-on-requires : tie.Need-tick-on-requires
-tick-on-requires c κs = search needs
-
 returns : tie.Need-returns
 returns c =
     let e = c .«tick-on» .ensures in
@@ -16,4 +13,4 @@ returns-2 : tie.Need-returns-2
 returns-2 c = record { parts = c .before .pre .parts; does = λ m. rw (c .if1 .left) refl }
 
 pub enemies-if-spec : {M : Type 1} → statement M
-enemies-if-spec = tie.close (tie.spec tick-on-requires returns returns-2)
+enemies-if-spec = tie.close (tie.spec (λ c κs. search needs) returns returns-2)

@@ -29,7 +29,26 @@ use Rattle.pace.proofs.both_ticks.Reads as both-ticks-reads
 
 -- once the creatures are taken apart
 abbrev Taken : Type 0
-Taken = lts.After-dirs-of (xs-of-reads.Asked, xs-of-reads.Learnt, ys-of-reads.Asked, ys-of-reads.Learnt, dirs-of-reads.Asked, dirs-of-reads.Learnt, play-reads.Asked, play-reads.Learnt, turn-reads.Asked, turn-reads.Learnt, both-ticks-reads.Asked, both-ticks-reads.Learnt, gravity-if-reads.Asked, gravity-if-reads.Learnt, enemies-if-reads.Asked, enemies-if-reads.Learnt, enemies-of-reads.Asked, enemies-of-reads.Learnt) reads.Pre reads.Post
+Taken = lts.After-dirs-of (
+  xs-of-reads.Asked,
+  xs-of-reads.Learnt,
+  ys-of-reads.Asked,
+  ys-of-reads.Learnt,
+  dirs-of-reads.Asked,
+  dirs-of-reads.Learnt,
+  play-reads.Asked,
+  play-reads.Learnt,
+  turn-reads.Asked,
+  turn-reads.Learnt,
+  both-ticks-reads.Asked,
+  both-ticks-reads.Learnt,
+  gravity-if-reads.Asked,
+  gravity-if-reads.Learnt,
+  enemies-if-reads.Asked,
+  enemies-if-reads.Learnt,
+  enemies-of-reads.Asked,
+  enemies-of-reads.Learnt,
+) reads.Pre reads.Post
 
 abbrev state : Taken → Mine
 state d = d .before .before .before .before .before .before .before .args .m
@@ -37,41 +56,68 @@ state d = d .before .before .before .before .before .before .before .args .m
 abbrev parts : (d : Taken) → Apart (d .before .before .«xs-of» .result) (d .before .«ys-of» .result) (d .«dirs-of» .result)
 parts d =
     let m = state d in
-    apart-of (m .enemies) (sound m (d .before .before .before .before .before .before .before .pre) .slots) (d .before .before .«xs-of» .ensures) (d .before .«ys-of» .ensures) (d .«dirs-of» .ensures)
+    apart-of (m .enemies) (sound m (d .before .before .before .before .before .before .before .pre) .slots) (d .before .before .«xs-of» .ensures)
+    (d .before .«ys-of» .ensures) (d .«dirs-of» .ensures)
 
 abbrev same : (d : Taken) → joined (d .before .before .«xs-of» .result) (d .before .«ys-of» .result) (d .«dirs-of» .result) ≡ state d .enemies
 same d = joined-of (state d .enemies) (d .before .before .«xs-of» .ensures) (d .before .«ys-of» .ensures) (d .«dirs-of» .ensures)
 
 -- after the keys
 abbrev Keyed : Type 0
-Keyed = lts.After-play (xs-of-reads.Asked, xs-of-reads.Learnt, ys-of-reads.Asked, ys-of-reads.Learnt, dirs-of-reads.Asked, dirs-of-reads.Learnt, play-reads.Asked, play-reads.Learnt, turn-reads.Asked, turn-reads.Learnt, both-ticks-reads.Asked, both-ticks-reads.Learnt, gravity-if-reads.Asked, gravity-if-reads.Learnt, enemies-if-reads.Asked, enemies-if-reads.Learnt, enemies-of-reads.Asked, enemies-of-reads.Learnt) reads.Pre reads.Post
+Keyed = lts.After-play (
+  xs-of-reads.Asked,
+  xs-of-reads.Learnt,
+  ys-of-reads.Asked,
+  ys-of-reads.Learnt,
+  dirs-of-reads.Asked,
+  dirs-of-reads.Learnt,
+  play-reads.Asked,
+  play-reads.Learnt,
+  turn-reads.Asked,
+  turn-reads.Learnt,
+  both-ticks-reads.Asked,
+  both-ticks-reads.Learnt,
+  gravity-if-reads.Asked,
+  gravity-if-reads.Learnt,
+  enemies-if-reads.Asked,
+  enemies-if-reads.Learnt,
+  enemies-of-reads.Asked,
+  enemies-of-reads.Learnt,
+) reads.Pre reads.Post
 
 abbrev taken : Keyed → Taken
 taken p = p .before .before .before .before
 
 -- after gravity
 abbrev Fell : Type 0
-Fell = lts.After-gravity-if (xs-of-reads.Asked, xs-of-reads.Learnt, ys-of-reads.Asked, ys-of-reads.Learnt, dirs-of-reads.Asked, dirs-of-reads.Learnt, play-reads.Asked, play-reads.Learnt, turn-reads.Asked, turn-reads.Learnt, both-ticks-reads.Asked, both-ticks-reads.Learnt, gravity-if-reads.Asked, gravity-if-reads.Learnt, enemies-if-reads.Asked, enemies-if-reads.Learnt, enemies-of-reads.Asked, enemies-of-reads.Learnt) reads.Pre reads.Post
+Fell = lts.After-gravity-if (
+  xs-of-reads.Asked,
+  xs-of-reads.Learnt,
+  ys-of-reads.Asked,
+  ys-of-reads.Learnt,
+  dirs-of-reads.Asked,
+  dirs-of-reads.Learnt,
+  play-reads.Asked,
+  play-reads.Learnt,
+  turn-reads.Asked,
+  turn-reads.Learnt,
+  both-ticks-reads.Asked,
+  both-ticks-reads.Learnt,
+  gravity-if-reads.Asked,
+  gravity-if-reads.Learnt,
+  enemies-if-reads.Asked,
+  enemies-if-reads.Learnt,
+  enemies-of-reads.Asked,
+  enemies-of-reads.Learnt,
+) reads.Pre reads.Post
 
 abbrev keyed : Fell → Keyed
 keyed g = g .before .before .before .before .before .before .before .before .before
-
-xs-of-requires : tie.Need-xs-of-requires
-xs-of-requires c κs = search needs
-
-ys-of-requires : tie.Need-ys-of-requires
-ys-of-requires c κs = search needs
-
-dirs-of-requires : tie.Need-dirs-of-requires
-dirs-of-requires c κs = search needs
 
 play-requires : tie.Need-play-requires
 play-requires c κs =
     let d = c .before .before .before in
     ready (state d) (d .before .before .before .before .before .before .before .pre) (same d) (parts d)
-
-turn-requires : tie.Need-turn-requires
-turn-requires c κs = search needs
 
 returns : tie.Need-returns
 returns c =
@@ -84,9 +130,6 @@ returns c =
     ∙ ap (λ (es : List Enemy). still (a .args .first) (a .args .second) NONE Quit (playing (m .falling) (p .play .last .0) es (m .count) (p .play .result .player))) (sym (same d))
     ∙ after-quit (a .args .first) (a .args .second) (a .args .time) _ (c .before .if1 .taken)
     ∙ ap (afterKeys (a .args .first) (a .args .second) (a .args .time)) s
-
-both-ticks-requires : tie.Need-both-ticks-requires
-both-ticks-requires c κs = search needs
 
 gravity-if-requires : tie.Need-gravity-if-requires
 gravity-if-requires c κs =
@@ -101,13 +144,11 @@ enemies-if-requires c κs =
     let p = keyed g in
     let d = taken p in
     let a = d .before .before .before .before .before .before .before in
-    walkers (state d) (a .pre) (same d) (parts d) (a .args .keys .now) (p .play .last .0) (p .play .result) (p .play .ensures) (g .before .before .before .before .before .before .«both-ticks» .result .one) _ _ _ _ _ _ (g .«gravity-if» .ensures)
+    walkers (state d) (a .pre) (same d) (parts d) (a .args .keys .now) (p .play .last .0) (p .play .result) (p .play .ensures)
+    (g .before .before .before .before .before .before .«both-ticks» .result .one) _ _ _ _ _ _ (g .«gravity-if» .ensures)
 
 enemies-of-requires : tie.Need-enemies-of-requires
 enemies-of-requires c κs = c .before .before .before .«enemies-if» .ensures .parts
-
-turn-requires-2 : tie.Need-turn-requires-2
-turn-requires-2 c κs = search needs
 
 returns-2 : tie.Need-returns-2
 returns-2 c =
@@ -120,26 +161,30 @@ returns-2 c =
     let w = a .pre in
     let keys = a .args .keys .now in
     let s = keyed-state (state d) w (same d) (parts d) keys (p .play .last .0) (p .play .result) (p .play .ensures) in
-    let F = fallenGame (state d) w (same d) (parts d) keys (p .play .last .0) (p .play .result) (p .play .ensures) (g .before .before .before .before .before .before .«both-ticks» .result .one) _ _ _ _ _ _ (g .«gravity-if» .ensures) in
-    let f = fallen-state (state d) w (same d) (parts d) keys (p .play .last .0) (p .play .result) (p .play .ensures) (g .before .before .before .before .before .before .«both-ticks» .result .one) _ _ _ _ _ _ (g .«gravity-if» .ensures) in
-    let y = ap (λ (es : List Enemy). deadIf (e .«enemies-if» .result) (standing F (F .grid) es (F .count) (F .px) (F .py))) (o .«enemies-of» .ensures) ∙ sym (e .«enemies-if» .ensures .does F) in
+    let F = fallenGame (state d) w (same d) (parts d) keys (p .play .last .0) (p .play .result) (p .play .ensures)
+    (g .before .before .before .before .before .before .«both-ticks» .result .one) _ _ _ _ _ _ (g .«gravity-if» .ensures) in
+    let f = fallen-state (state d) w (same d) (parts d) keys (p .play .last .0) (p .play .result) (p .play .ensures)
+    (g .before .before .before .before .before .before .«both-ticks» .result .one) _ _ _ _ _ _ (g .«gravity-if» .ensures) in
+    let y = ap (λ (es : List Enemy). deadIf (e .«enemies-if» .result) (standing F (F .grid) es (F .count) (F .px) (F .py))) (o .«enemies-of» .ensures)
+    ∙ sym (e .«enemies-if» .ensures .does F) in
     c .turn2 .ensures
-    ∙ after-ticks (a .args .first) (a .args .second) (a .args .time) _ (g .before .before .before .before .before .before .before .if1 .left) (g .before .before .before .before .before .before .«both-ticks» .ensures) f y
+    ∙ after-ticks (a .args .first) (a .args .second) (a .args .time) _ (g .before .before .before .before .before .before .before .if1 .left)
+    (g .before .before .before .before .before .before .«both-ticks» .ensures) f y
     ∙ ap (afterKeys (a .args .first) (a .args .second) (a .args .time)) s
 
 pub go-on-spec : {M : Type 1} → statement M
 go-on-spec =
     tie.close
     (tie.spec
-    xs-of-requires
-    ys-of-requires
-    dirs-of-requires
+    (λ c κs. search needs)
+    (λ c κs. search needs)
+    (λ c κs. search needs)
     play-requires
-    turn-requires
+    (λ c κs. search needs)
     returns
-    both-ticks-requires
+    (λ c κs. search needs)
     gravity-if-requires
     enemies-if-requires
     enemies-of-requires
-    turn-requires-2
+    (λ c κs. search needs)
     returns-2)

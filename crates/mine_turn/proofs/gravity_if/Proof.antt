@@ -4,9 +4,6 @@ use borrow.Author.Needs.{needs}
 use Rattle.mine_turn.proofs.gravity_if.Statement.{statement}
 use Rattle.mine_turn.proofs.gravity_if.Tie as tie
 
-gravity-on-requires : tie.Need-gravity-on-requires
-gravity-on-requires c κs = search needs
-
 returns : tie.Need-returns
 returns c =
     let e = c .«gravity-on» .ensures in
@@ -16,4 +13,4 @@ returns-2 : tie.Need-returns-2
 returns-2 c = record { parts = c .before .pre .parts; does = λ m. rw (c .if1 .left) refl }
 
 pub gravity-if-spec : {M : Type 1} → statement M
-gravity-if-spec = tie.close (tie.spec gravity-on-requires returns returns-2)
+gravity-if-spec = tie.close (tie.spec (λ c κs. search needs) returns returns-2)

@@ -6,20 +6,11 @@ use Rattle.mine_pass.proofs.Answers.{refused-pass, won-pass, dead-pass, after-k
 use Rattle.mine_turn.proofs.pass_at.Statement.{statement}
 use Rattle.mine_turn.proofs.pass_at.Tie as tie
 
-check-requires : tie.Need-check-requires
-check-requires c κs = search needs
-
-turn-requires : tie.Need-turn-requires
-turn-requires c κs = search needs
-
 returns : tie.Need-returns
 returns c =
     let k = c .before .before in
     let a = k .before .before .args in
     c .turn .ensures ∙ refused-pass (a .m) (a .keys .now) (a .time) (a .first) (a .second) (k .check .ensures) (c .before .if1 .taken)
-
-turn-requires-2 : tie.Need-turn-requires-2
-turn-requires-2 c κs = search needs
 
 returns-2 : tie.Need-returns-2
 returns-2 c =
@@ -27,14 +18,12 @@ returns-2 c =
     let a = k .before .before .args in
     c .turn2 .ensures ∙ won-pass (a .m) (a .keys .now) (a .time) (a .first) (a .second) (k .check .ensures) (c .before .before .if1 .left) (c .before .if2 .taken)
 
-turn-requires-3 : tie.Need-turn-requires-3
-turn-requires-3 c κs = search needs
-
 returns-3 : tie.Need-returns-3
 returns-3 c =
     let k = c .before .before .before .before in
     let a = k .before .before .args in
-    c .turn3 .ensures ∙ dead-pass (a .m) (a .keys .now) (a .time) (a .first) (a .second) (k .check .ensures) (c .before .before .before .if1 .left) (c .before .before .if2 .left) (c .before .if3 .taken)
+    c .turn3 .ensures ∙ dead-pass (a .m) (a .keys .now) (a .time) (a .first) (a .second) (k .check .ensures) (c .before .before .before .if1 .left)
+    (c .before .before .if2 .left) (c .before .if3 .taken)
 
 go-on-requires : tie.Need-go-on-requires
 go-on-requires c κs =
@@ -45,18 +34,19 @@ returns-4 : tie.Need-returns-4
 returns-4 c =
     let k = c .before .before .before .before in
     let a = k .before .before .args in
-    c .«go-on» .ensures ∙ after-keys (a .m) (a .keys .now) (a .time) (a .first) (a .second) (k .check .ensures) (c .before .before .before .if1 .left) (c .before .before .if2 .left) (c .before .if3 .left)
+    c .«go-on» .ensures ∙ after-keys (a .m) (a .keys .now) (a .time) (a .first) (a .second) (k .check .ensures) (c .before .before .before .if1 .left)
+    (c .before .before .if2 .left) (c .before .if3 .left)
 
 pub pass-at-spec : {M : Type 1} → statement M
 pass-at-spec =
     tie.close
     (tie.spec
-    check-requires
-    turn-requires
+    (λ c κs. search needs)
+    (λ c κs. search needs)
     returns
-    turn-requires-2
+    (λ c κs. search needs)
     returns-2
-    turn-requires-3
+    (λ c κs. search needs)
     returns-3
     go-on-requires
     returns-4)

@@ -21,7 +21,8 @@ use Rattle.controls.specs.Keys.{KEY-QUIT}
 
 abbrev Inv-loop : tie.InvT-loop
 Inv-loop grid₀ xs ys count keys to₀ i₀ grid to i =
-    (i ≤ length keys) × Ready grid xs ys count to × ((f : List Bool) (ds : List ℕ) → length ds ≡ MAX-ENEMIES → played (playing f grid (joined xs ys ds) count to) (drop i keys) ≡ played (playing f grid₀ (joined xs ys ds) count to₀) keys)
+    (i ≤ length keys) × Ready grid xs ys count to × ((f : List Bool) (ds : List ℕ) → length ds ≡ MAX-ENEMIES
+    → played (playing f grid (joined xs ys ds) count to) (drop i keys) ≡ played (playing f grid₀ (joined xs ys ds) count to₀) keys)
 
 abbrev μ-loop : tie.MeasureT-loop
 μ-loop grid₀ xs ys count keys to₀ i₀ grid to i = length keys - i

@@ -7,9 +7,6 @@ use Rattle.mine_turn.proofs.Keys.{key-moves, key-stays}
 use Rattle.mine_turn.proofs.press.Statement.{statement}
 use Rattle.mine_turn.proofs.press.Tie as tie
 
-dir-of-requires : tie.Need-dir-of-requires
-dir-of-requires c κs = search needs
-
 step-on-requires : tie.Need-step-on-requires
 step-on-requires c κs =
     let r = c .before .before .before .pre in
@@ -32,4 +29,4 @@ returns-2 c =
     λ f ds l. key-stays _ (d .before .args .key) (d .«dir-of» .ensures) (c .if1 .left)
 
 pub press-spec : {M : Type 1} → statement M
-press-spec = tie.close (tie.spec dir-of-requires step-on-requires returns returns-2)
+press-spec = tie.close (tie.spec (λ c κs. search needs) step-on-requires returns returns-2)

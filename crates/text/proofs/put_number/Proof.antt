@@ -11,39 +11,29 @@ use borrow.Author.Needs.{needs}
 use Rattle.text.proofs.put_number.Statement.{statement}
 use Rattle.text.proofs.put_number.Tie as tie
 
-decimal-requires : tie.Need-decimal-requires
-decimal-requires c κs = search needs
-
-array-share-prefix-digits : tie.Need-array-share-prefix-digits
-array-share-prefix-digits c = search needs
-
-slice-aggregate-put : tie.Need-slice-aggregate-put
-slice-aggregate-put c = search needs
-
 put-requires : tie.Need-put-requires
 put-requires c κs =
     let d = c .before .before .decimal in
     let n = c .before .before .before .before .before .args .n in
-    let e : take (d .result) (d .last .1 .0) ≡ decimal n = d .ensures .1 .1 ∙ digits-are (d .result) n (c .before .before .before .before .before .fits .n .fits) (d .ensures .1 .0) in
+    let e : take (d .result) (d .last .1 .0) ≡ decimal n = d .ensures .1 .1
+    ∙ digits-are (d .result) n (c .before .before .before .before .before .fits .n .fits) (d .ensures .1 .0) in
     rw e (omega (arith, length-decimal DIGITS n))
-
-same-length : tie.Need-same-length
-same-length c = search needs
 
 returns : tie.Need-returns
 returns c =
     let d = c .before .before .before .before .before .decimal in
     let k = c .before .before .before .before .before .before .before .before in
     let p = c .before .before .put in
-    subst (λ (t : List ℕ). Puts t (k .args .at) (k .args .out .now) (p .result) (p .last .1 .0)) (d .ensures .1 .1 ∙ digits-are (d .result) (k .args .n) (k .fits .n .fits) (d .ensures .1 .0)) (p .ensures)
+    subst (λ (t : List ℕ). Puts t (k .args .at) (k .args .out .now) (p .result) (p .last .1 .0))
+    (d .ensures .1 .1 ∙ digits-are (d .result) (k .args .n) (k .fits .n .fits) (d .ensures .1 .0)) (p .ensures)
 
 pub put-number-spec : {M : Type 1} → statement M
 put-number-spec =
     tie.close
     (tie.spec
-    decimal-requires
-    array-share-prefix-digits
-    slice-aggregate-put
+    (λ c κs. search needs)
+    (λ c. search needs)
+    (λ c. search needs)
     put-requires
-    same-length
+    (λ c. search needs)
     returns)

@@ -12,7 +12,8 @@ use Rattle.text.proofs.put_numbers.Statement.{statement}
 use Rattle.text.proofs.put_numbers.Tie as tie
 
 abbrev Inv-loop : tie.InvT-loop
-Inv-loop out₀ at numbers end₀ i₀ out end i = (1 ≤ i) × (i ≤ NUMBERS) × (end + (DIGITS + 1) * (NUMBERS - i) + 1 ≤ length out) × (length out ≡ length out₀) × ((n : ℕ) (l : List ℕ) → Puts (further (drop i numbers)) end out n l → Puts (further (drop 1 numbers)) end₀ out₀ n l)
+Inv-loop out₀ at numbers end₀ i₀ out end i = (1 ≤ i) × (i ≤ NUMBERS) × (end + (DIGITS + 1) * (NUMBERS - i) + 1 ≤ length out) × (length out ≡ length out₀) ×
+    ((n : ℕ) (l : List ℕ) → Puts (further (drop i numbers)) end out n l → Puts (further (drop 1 numbers)) end₀ out₀ n l)
 
 abbrev μ-loop : tie.MeasureT-loop
 μ-loop out₀ at numbers end₀ i₀ out end i = NUMBERS - i
@@ -54,8 +55,14 @@ loop-again c =
     let ns = c .before .before .before .before .before .before .before .before .before .before .before .args .t1 in
     let size : length ns ≡ NUMBERS = search needs in
     let more : s .end < length (s .out) = omega arith in
-    let kept : length (p .last .1 .0) ≡ length (s .out) = p .ensures .size ∙ length-set (s .out) (s .end) SPACE in
-    (omega arith, omega arith, omega (arith, number-ends _ (p .ensures)), kept ∙ s .inv .3, λ n l q. s .inv .4 n l (one-more ns (s .i) (s .end) (s .out) more (omega arith) (p .ensures) q))
+    let kept : length (p .last .1 .0) ≡ length (s .out) = p .ensures .size ∙ length-set (s .out) (s .end) SPACE in (
+      omega arith,
+      omega arith,
+      omega (arith, number-ends _ (p .ensures)),
+      kept
+          ∙ s .inv .3,
+      λ n l q. s .inv .4 n l (one-more ns (s .i) (s .end) (s .out) more (omega arith) (p .ensures) q),
+    )
 
 slice-write-out-2 : tie.Need-slice-write-out-2 Inv-loop μ-loop
 slice-write-out-2 c = omega arith

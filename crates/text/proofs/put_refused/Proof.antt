@@ -9,15 +9,6 @@ use borrow.Author.Needs.{needs}
 use Rattle.text.proofs.put_refused.Statement.{statement}
 use Rattle.text.proofs.put_refused.Tie as tie
 
-slice-aggregate-put : tie.Need-slice-aggregate-put
-slice-aggregate-put c = search needs
-
-put-requires : tie.Need-put-requires
-put-requires c κs = search needs
-
-put-number-requires : tie.Need-put-number-requires
-put-number-requires c κs = search needs
-
 slice-write-out : tie.Need-slice-write-out
 slice-write-out c = omega (arith, number-ends _ (c .before .before .put-number .ensures))
 
@@ -25,7 +16,8 @@ add-result : tie.Need-add-result
 add-result c = omega (arith, number-ends _ (c .before .before .put-number .ensures))
 
 same-length : tie.Need-same-length
-same-length c = length-set (c .before .before .put-number .last .1 .0) (c .before .before .put-number .result) NEWLINE ∙ c .before .before .put-number .ensures .size ∙ c .before .before .before .before .before .before .put .ensures .size
+same-length c = length-set (c .before .before .put-number .last .1 .0) (c .before .before .put-number .result) NEWLINE ∙ c .before .before .put-number .ensures .size
+    ∙ c .before .before .before .before .before .before .put .ensures .size
 
 returns : tie.Need-returns
 unfolding refusedLine
@@ -37,9 +29,9 @@ pub put-refused-spec : {M : Type 1} → statement M
 put-refused-spec =
     tie.close
     (tie.spec
-    slice-aggregate-put
-    put-requires
-    put-number-requires
+    (λ c. search needs)
+    (λ c κs. search needs)
+    (λ c κs. search needs)
     slice-write-out
     add-result
     same-length

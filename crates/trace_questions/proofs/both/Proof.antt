@@ -4,20 +4,8 @@ use native.Mathlib.Omega.{arith}
 use Rattle.trace_questions.proofs.both.Statement.{statement}
 use Rattle.trace_questions.proofs.both.Tie as tie
 
-enum-known-g : tie.Need-enum-known-g
-enum-known-g c = search needs
-
-enum-told : tie.Need-enum-told
-enum-told c = search needs
-
 returns : tie.Need-returns
 returns c = rw (c .enum-told .given .1)
-
-enum-known-f : tie.Need-enum-known-f
-enum-known-f c = search needs
-
-enum-told-2 : tie.Need-enum-told-2
-enum-told-2 c = search needs
 
 add-t8 : tie.Need-add-t8
 add-t8 c = let s = c .before .before .before in omega (arith, rw (s .g .given .1) at (s .before .before .pre .places))
@@ -37,11 +25,11 @@ pub both-spec : {M : Type 1} → statement M
 both-spec =
     tie.close
     (tie.spec
-    enum-known-g
-    enum-told
+    (λ c. search needs)
+    (λ c. search needs)
     returns
-    enum-known-f
-    enum-told-2
+    (λ c. search needs)
+    (λ c. search needs)
     add-t8
     returns-2
     add-t9

@@ -28,18 +28,6 @@ add-enemy-or c = omega (arith, c .before .before .before .pre .inside, c .before
 enemy-or-requires : tie.Need-enemy-or-requires Inv-loop μ-loop
 enemy-or-requires c κs = c .before .before .before .pre .inside
 
-mul-enemies : tie.Need-mul-enemies Inv-loop μ-loop
-mul-enemies c = search needs
-
-array-set-from-enemies : tie.Need-array-set-from-enemies Inv-loop μ-loop
-array-set-from-enemies c = search needs
-
-add-i : tie.Need-add-i Inv-loop μ-loop
-add-i c = search needs
-
-loop-less : tie.Need-loop-less Inv-loop μ-loop
-loop-less c = search needs
-
 loop-again : tie.Need-loop-again Inv-loop μ-loop
 loop-again c =
     let s = c .before .before .loop in
@@ -66,9 +54,9 @@ enemies-from-spec =
     loop-holds
     add-enemy-or
     enemy-or-requires
-    mul-enemies
-    array-set-from-enemies
-    add-i
-    loop-less
+    (λ c. search needs)
+    (λ c. search needs)
+    (λ c. search needs)
+    (λ c. search needs)
     loop-again
     returns)

@@ -28,18 +28,6 @@ add-mover-or c = omega (arith, c .before .before .before .pre .inside, c .before
 mover-or-requires : tie.Need-mover-or-requires Inv-loop μ-loop
 mover-or-requires c κs = c .before .before .before .pre .inside
 
-mul-enemies : tie.Need-mul-enemies Inv-loop μ-loop
-mul-enemies c = search needs
-
-array-set-from-enemies : tie.Need-array-set-from-enemies Inv-loop μ-loop
-array-set-from-enemies c = search needs
-
-add-i : tie.Need-add-i Inv-loop μ-loop
-add-i c = search needs
-
-loop-less : tie.Need-loop-less Inv-loop μ-loop
-loop-less c = search needs
-
 loop-again : tie.Need-loop-again Inv-loop μ-loop
 loop-again c =
     let s = c .before .before .loop in
@@ -66,9 +54,9 @@ movers-from-spec =
     loop-holds
     add-mover-or
     mover-or-requires
-    mul-enemies
-    array-set-from-enemies
-    add-i
-    loop-less
+    (λ c. search needs)
+    (λ c. search needs)
+    (λ c. search needs)
+    (λ c. search needs)
     loop-again
     returns)

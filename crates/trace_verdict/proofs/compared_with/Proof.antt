@@ -14,15 +14,6 @@ returns-2 : tie.Need-returns-2
 unfolding compared
 returns-2 c = simp (eq-eqb _ _ (c .before .before .«if1» .left), ne-eqb _ _ (c .if2 .taken))
 
-state-differs-requires : tie.Need-state-differs-requires
-state-differs-requires c κs = search needs
-
-enum-known-i : tie.Need-enum-known-i
-enum-known-i c = search needs
-
-part-at-requires : tie.Need-part-at-requires
-part-at-requires c κs = search needs
-
 returns-3 : tie.Need-returns-3
 unfolding compared
 returns-3 c =
@@ -31,25 +22,19 @@ returns-3 c =
     let k3 = k2 .before .before in
     simp (eq-eqb _ _ (k3 .«if1» .left), eq-eqb _ _ (k2 .«if2» .left), sym (k1 .«state-differs» .ensures) ∙ c .before .before .«i» .given .1) (c .«part-at» .ensures)
 
-enum-told : tie.Need-enum-told
-enum-told c = search needs
-
-is-rewritten-requires : tie.Need-is-rewritten-requires
-is-rewritten-requires c κs = search needs
-
 returns-4 : tie.Need-returns-4
 unfolding compared
 returns-4 c =
     let k1 = c .before .before .before .before in
     let k2 = k1 .before in
     let k3 = k2 .before .before in
-    simp (eq-eqb _ _ (k3 .«if1» .left), eq-eqb _ _ (k2 .«if2» .left), sym (k1 .«state-differs» .ensures) ∙ c .before .before .«enum-told» .given .1, sym (c .before .«is-rewritten» .ensures) ∙ c .if3 .taken)
-
-differs-requires : tie.Need-differs-requires
-differs-requires c κs = search needs
-
-enum-known-i-2 : tie.Need-enum-known-i-2
-enum-known-i-2 c = search needs
+    simp (
+      eq-eqb _ _ (k3 .«if1» .left),
+      eq-eqb _ _ (k2 .«if2» .left),
+      sym (k1 .«state-differs» .ensures)
+          ∙ c .before .before .«enum-told» .given .1,
+      sym (c .before .«is-rewritten» .ensures) ∙ c .if3 .taken,
+    )
 
 returns-5 : tie.Need-returns-5
 unfolding compared
@@ -61,10 +46,14 @@ returns-5 c =
     let k5 = k4 .before .before in
     let k6 = k5 .before in
     let k7 = k6 .before .before in
-    simp (eq-eqb _ _ (k7 .«if1» .left), eq-eqb _ _ (k6 .«if2» .left), sym (k5 .«state-differs» .ensures) ∙ k4 .«enum-told» .given .1, sym (k3 .«is-rewritten» .ensures) ∙ k2 .«if3» .left, sym (k1 .«differs» .ensures) ∙ c .before .«i2» .given .1)
-
-enum-told-2 : tie.Need-enum-told-2
-enum-told-2 c = search needs
+    simp (
+      eq-eqb _ _ (k7 .«if1» .left),
+      eq-eqb _ _ (k6 .«if2» .left),
+      sym (k5 .«state-differs» .ensures) ∙ k4 .«enum-told» .given .1,
+      sym (k3 .«is-rewritten» .ensures)
+          ∙ k2 .«if3» .left,
+      sym (k1 .«differs» .ensures) ∙ c .before .«i2» .given .1,
+    )
 
 returns-6 : tie.Need-returns-6
 unfolding compared
@@ -75,7 +64,14 @@ returns-6 c =
     let k4 = k3 .before .before in
     let k5 = k4 .before in
     let k6 = k5 .before .before in
-    simp (eq-eqb _ _ (k6 .«if1» .left), eq-eqb _ _ (k5 .«if2» .left), sym (k4 .«state-differs» .ensures) ∙ k3 .«enum-told» .given .1, sym (k2 .«is-rewritten» .ensures) ∙ k1 .«if3» .left, sym (c .before .before .«differs» .ensures) ∙ c .«enum-told2» .given .1)
+    simp (
+      eq-eqb _ _ (k6 .«if1» .left),
+      eq-eqb _ _ (k5 .«if2» .left),
+      sym (k4 .«state-differs» .ensures) ∙ k3 .«enum-told» .given .1,
+      sym (k2 .«is-rewritten» .ensures)
+          ∙ k1 .«if3» .left,
+      sym (c .before .before .«differs» .ensures) ∙ c .«enum-told2» .given .1,
+    )
 
 pub compared-with-spec : {M : Type 1} → statement M
 compared-with-spec =
@@ -83,15 +79,15 @@ compared-with-spec =
     (tie.spec
     returns
     returns-2
-    state-differs-requires
-    enum-known-i
-    part-at-requires
+    (λ c κs. search needs)
+    (λ c. search needs)
+    (λ c κs. search needs)
     returns-3
-    enum-told
-    is-rewritten-requires
+    (λ c. search needs)
+    (λ c κs. search needs)
     returns-4
-    differs-requires
-    enum-known-i-2
+    (λ c κs. search needs)
+    (λ c. search needs)
     returns-5
-    enum-told-2
+    (λ c. search needs)
     returns-6)

@@ -29,7 +29,8 @@ shared-slice-read-if2-2 : tie.Need-shared-slice-read-if2-2 Inv-loop μ-loop
 shared-slice-read-if2-2 c = omega arith
 
 returns-2 : tie.Need-returns-2 Inv-loop μ-loop
-returns-2 c = let k = c .before .before .before .before .before in let x = k .before .args in unlike (x .a .now) (x .b .now) (k .loop .i) (k .loop .inv .2) (omega arith) (omega arith) (ne-eqb _ _ (c .if2 .taken))
+returns-2 c = let k = c .before .before .before .before .before in let x = k .before .args in
+    unlike (x .a .now) (x .b .now) (k .loop .i) (k .loop .inv .2) (omega arith) (omega arith) (ne-eqb _ _ (c .if2 .taken))
 
 add-i : tie.Need-add-i Inv-loop μ-loop
 add-i c = omega arith
@@ -40,7 +41,8 @@ loop-less c = omega arith
 loop-again : tie.Need-loop-again Inv-loop μ-loop
 loop-again c =
     let k1 = c .before .before .before .before .before in
-    let k = k1 in let x = k .before .args in (omega arith, omega arith, alike (x .a .now) (x .b .now) (k .loop .i) (k .loop .inv .2) (omega arith) (omega arith) (eq-eqb _ _ (c .if2 .left)))
+    let k = k1 in let x = k .before .args in
+    (omega arith, omega arith, alike (x .a .now) (x .b .now) (k .loop .i) (k .loop .inv .2) (omega arith) (omega arith) (eq-eqb _ _ (c .if2 .left)))
 
 returns-3 : tie.Need-returns-3 Inv-loop μ-loop
 returns-3 c = let s = c .before .before .loop in let x = c .before .before .before .args in cut-left (x .a .now) (x .b .now) (s .i) (s .inv .2) (omega arith) (omega arith)

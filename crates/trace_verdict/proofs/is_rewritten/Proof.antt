@@ -10,18 +10,9 @@ returns : tie.Need-returns
 unfolding rewritten
 returns c = simp (eq-eqb _ _ (c .if1 .taken))
 
-differs-requires : tie.Need-differs-requires
-differs-requires c κs = search needs
-
-enum-told : tie.Need-enum-told
-enum-told c = search needs
-
 returns-2 : tie.Need-returns-2
 unfolding rewritten
 returns-2 c = let d = c .before .before in simp (ne-eqb _ _ (d .before .if1 .left), sym (d .«differs» .ensures) ∙ c .enum-told .given .1)
-
-enum-told-2 : tie.Need-enum-told-2
-enum-told-2 c = search needs
 
 returns-3 : tie.Need-returns-3
 unfolding rewritten
@@ -29,4 +20,4 @@ returns-3 c = let d = c .before .before in simp (ne-eqb _ _ (d .before .if1 .lef
 
 pub is-rewritten-spec : {M : Type 1} → statement M
 is-rewritten-spec =
-    tie.close (tie.spec returns differs-requires enum-told returns-2 enum-told-2 returns-3)
+    tie.close (tie.spec returns (λ c κs. search needs) (λ c. search needs) returns-2 (λ c. search needs) returns-3)

@@ -6,9 +6,6 @@ use Rattle.trace_verdict.specs.Compare.{RECORD, placed}
 use Rattle.trace_verdict.proofs.part_at.Statement.{statement}
 use Rattle.trace_verdict.proofs.part_at.Tie as tie
 
-record-start-requires : tie.Need-record-start-requires
-record-start-requires c κs = search needs
-
 returns : tie.Need-returns
 unfolding placed
 returns c =
@@ -26,4 +23,4 @@ returns-2 c =
     rw (s .ensures, le-ltb (x .i) (x .n - RECORD) h)
 
 pub part-at-spec : {M : Type 1} → statement M
-part-at-spec = tie.close (tie.spec record-start-requires returns returns-2)
+part-at-spec = tie.close (tie.spec (λ c κs. search needs) returns returns-2)

@@ -4,17 +4,8 @@ use Rattle.trace_words.proofs.Signs.{signed-low, signed-fits, signed-hi
 use Rattle.trace_words.proofs.signed_of.Statement.{statement}
 use Rattle.trace_words.proofs.signed_of.Tie as tie
 
-cast-result : tie.Need-cast-result
-cast-result c = search needs
-
 returns : tie.Need-returns
 returns c = signed-low (c .before .args .b) (c .if1 .taken)
-
-sub-result : tie.Need-sub-result
-sub-result c = search needs
-
-cast-result-2 : tie.Need-cast-result-2
-cast-result-2 c = search needs
 
 sub-result-2 : tie.Need-sub-result-2
 sub-result-2 c = signed-fits (c .before .args .b) (c .if1 .left) (c .before .fits .b .fits)
@@ -24,4 +15,4 @@ returns-2 c = signed-high (c .before .args .b) (c .if1 .left) (c .before .fits .
 
 pub signed-of-spec : {M : Type 1} → statement M
 signed-of-spec =
-    tie.close (tie.spec cast-result returns sub-result cast-result-2 sub-result-2 returns-2)
+    tie.close (tie.spec (λ c. search needs) returns (λ c. search needs) (λ c. search needs) sub-result-2 returns-2)

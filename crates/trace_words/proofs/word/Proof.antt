@@ -23,7 +23,8 @@ sub-i : tie.Need-sub-i Inv-loop μ-loop
 sub-i c = omega arith
 
 mul-n : tie.Need-mul-n Inv-loop μ-loop
-mul-n c = let s = c .before .loop in let a = c .before .before .args in omega (arith, s .inv .3, c .before .before .pre .narrow, pow-up (a .at + a .k - s .i) (omega (arith, c .before .before .pre .narrow)))
+mul-n c = let s = c .before .loop in let a = c .before .before .args in
+    omega (arith, s .inv .3, c .before .before .pre .narrow, pow-up (a .at + a .k - s .i) (omega (arith, c .before .before .pre .narrow)))
 
 shared-slice-read-n : tie.Need-shared-slice-read-n Inv-loop μ-loop
 shared-slice-read-n c = omega (arith, c .before .before .before .pre .inside)
@@ -32,7 +33,14 @@ cast-n : tie.Need-cast-n Inv-loop μ-loop
 cast-n c = omega (arith, c .shared-slice-known .given (c .before .before .loop .i - 1))
 
 add-n : tie.Need-add-n Inv-loop μ-loop
-add-n c = let s = c .before .before .loop in let a = c .before .before .before .args in omega (arith, s .inv .3, c .before .before .before .pre .narrow, c .shared-slice-known .given (s .i - 1), pow-up (a .at + a .k - s .i) (omega (arith, c .before .before .before .pre .narrow)))
+add-n c = let s = c .before .before .loop in let a = c .before .before .before .args in
+    omega (
+      arith,
+      s .inv .3,
+      c .before .before .before .pre .narrow,
+      c .shared-slice-known .given (s .i - 1),
+      pow-up (a .at + a .k - s .i) (omega (arith, c .before .before .before .pre .narrow)),
+    )
 
 loop-less : tie.Need-loop-less Inv-loop μ-loop
 loop-less c = omega arith
@@ -40,14 +48,21 @@ loop-less c = omega arith
 loop-again : tie.Need-loop-again Inv-loop μ-loop
 loop-again c =
     let s = c .before .before .loop in
-    let a = c .before .before .before .args in
-    (omega arith, omega arith, word-more (a .k) (a .at) (s .i) (a .bytes .now) (omega arith) (omega arith) (s .inv .2), below-more (a .k) (a .at) (s .i) (s .n) _ (omega arith) (omega arith) (s .inv .3) (c .shared-slice-known .given (s .i - 1) .fits))
+    let a = c .before .before .before .args in (
+      omega arith,
+      omega arith,
+      word-more (a .k) (a .at) (s .i) (a .bytes .now) (omega arith) (omega arith) (s .inv .2),
+      below-more (a .k) (a .at) (s .i) (s .n) _ (omega arith) (omega arith) (s .inv .3) (c .shared-slice-known .given (s .i - 1) .fits),
+    )
 
 returns : tie.Need-returns Inv-loop μ-loop
 returns c =
     let s = c .before .loop in
     let a = c .before .before .args in
-    record { is = word-whole (a .k) (a .at) (s .i) (a .bytes .now) (omega arith) (omega arith) (s .inv .2); fits = below-end (a .k) (a .at) (s .i) (s .n) (omega arith) (omega arith) (s .inv .3) }
+    record {
+      is = word-whole (a .k) (a .at) (s .i) (a .bytes .now) (omega arith) (omega arith) (s .inv .2);
+      fits = below-end (a .k) (a .at) (s .i) (s .n) (omega arith) (omega arith) (s .inv .3);
+    }
 
 pub word-spec : {M : Type 1} → statement M
 word-spec =

@@ -15,23 +15,11 @@ abbrev μ-loop : tie.MeasureT-loop
 loop-holds : tie.Need-loop-holds Inv-loop μ-loop
 loop-holds c = tt
 
-shared-slice-read-play-byte : tie.Need-shared-slice-read-play-byte Inv-loop μ-loop
-shared-slice-read-play-byte c = search needs
-
-play-byte-requires : tie.Need-play-byte-requires Inv-loop μ-loop
-play-byte-requires c κs = search needs
-
-add-i : tie.Need-add-i Inv-loop μ-loop
-add-i c = search needs
-
 loop-less : tie.Need-loop-less Inv-loop μ-loop
 loop-less c = omega arith
 
 loop-again : tie.Need-loop-again Inv-loop μ-loop
 loop-again c = tt
-
-returns : tie.Need-returns Inv-loop μ-loop
-returns c = search needs
 
 pub play-bytes-spec : {M : Type 1} → statement M
 play-bytes-spec =
@@ -40,9 +28,9 @@ play-bytes-spec =
     Inv-loop
     μ-loop
     loop-holds
-    shared-slice-read-play-byte
-    play-byte-requires
-    add-i
+    (λ c. search needs)
+    (λ c κs. search needs)
+    (λ c. search needs)
     loop-less
     loop-again
-    returns)
+    (λ c. search needs))

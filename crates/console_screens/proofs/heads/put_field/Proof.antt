@@ -6,23 +6,17 @@ use Rattle.text.proofs.Lines.{number-ends}
 use Rattle.console_screens.proofs.heads.put_field.Statement.{statement}
 use Rattle.console_screens.proofs.heads.put_field.Tie as tie
 
-put-requires : tie.Need-put-requires
-put-requires c κs = search needs
-
-put-number-requires : tie.Need-put-number-requires
-put-number-requires c κs = search needs
-
-same-length : tie.Need-same-length
-same-length c = search needs
-
 returns : tie.Need-returns
-returns c = record { puts = puts-both (c .before .before .before .before .before .before .put .ensures) (c .before .before .put-number .ensures); short = omega (arith, c .before .before .before .before .before .before .put .ensures .ends, number-ends _ (c .before .before .put-number .ensures)) }
+returns c = record {
+  puts = puts-both (c .before .before .before .before .before .before .put .ensures) (c .before .before .put-number .ensures);
+  short = omega (arith, c .before .before .before .before .before .before .put .ensures .ends, number-ends _ (c .before .before .put-number .ensures));
+}
 
 pub put-field-spec : {M : Type 1} → statement M
 put-field-spec =
     tie.close
     (tie.spec
-    put-requires
-    put-number-requires
-    same-length
+    (λ c κs. search needs)
+    (λ c κs. search needs)
+    (λ c. search needs)
     returns)

@@ -6,18 +6,6 @@ use borrow.Author.Needs.{needs}
 use Rattle.console_screens.proofs.screens.mine_screen.Statement.{statement}
 use Rattle.console_screens.proofs.screens.mine_screen.Tie as tie
 
-slice-aggregate-mine-head : tie.Need-slice-aggregate-mine-head
-slice-aggregate-mine-head c = search needs
-
-mine-head-requires : tie.Need-mine-head-requires
-mine-head-requires c κs = search needs
-
-slice-aggregate-render : tie.Need-slice-aggregate-render
-slice-aggregate-render c = search needs
-
-render-requires : tie.Need-render-requires
-render-requires c κs = search needs
-
 returns : tie.Need-returns
 returns c = record { text = c .before .before .before .before .mine-head .ensures; picture = ap (λ (z : ℕ × List ℕ). z .1) (c .before .render .ensures) }
 
@@ -25,8 +13,8 @@ pub mine-screen-spec : {M : Type 1} → statement M
 mine-screen-spec =
     tie.close
     (tie.spec
-    slice-aggregate-mine-head
-    mine-head-requires
-    slice-aggregate-render
-    render-requires
+    (λ c. search needs)
+    (λ c κs. search needs)
+    (λ c. search needs)
+    (λ c κs. search needs)
     returns)

@@ -14,9 +14,6 @@ returns-2 : tie.Need-returns-2
 unfolding drawsDue levelDue
 returns-2 c = simp (eq-eqb _ _ (c .before .before .if1 .left), c .if2 .taken)
 
-next-draws-requires : tie.Need-next-draws-requires
-next-draws-requires c κs = search needs
-
 returns-3 : tie.Need-returns-3
 unfolding drawsDue levelDue
 returns-3 c = simp (eq-eqb _ _ (c .before .before .before .before .if1 .left), c .before .before .if2 .left, c .before .if3 .taken) (c .next-draws .ensures)
@@ -26,4 +23,4 @@ unfolding drawsDue levelDue
 returns-4 c = simp (eq-eqb _ _ (c .before .before .before .if1 .left), c .before .if2 .left, c .if3 .left)
 
 pub cutter-draws-spec : {M : Type 1} → statement M
-cutter-draws-spec = tie.close (tie.spec returns returns-2 next-draws-requires returns-3 returns-4)
+cutter-draws-spec = tie.close (tie.spec returns returns-2 (λ c κs. search needs) returns-3 returns-4)

@@ -6,12 +6,6 @@ use borrow.Author.Needs.{needs}
 use Rattle.console_turns.proofs.cut.cutter_start.Statement.{statement}
 use Rattle.console_turns.proofs.cut.cutter_start.Tie as tie
 
-start-requires : tie.Need-start-requires
-start-requires c κs = search needs
-
-new-round-requires : tie.Need-new-round-requires
-new-round-requires c κs = search needs
-
 returns : tie.Need-returns
 unfolding cutterStarted
 returns c = simp (c .before .before .before .before .start .ensures, sym (c .before .before .before .new-round .ensures), eq-eqb _ _ (c .if1 .taken))
@@ -21,4 +15,4 @@ unfolding cutterStarted
 returns-2 c = simp (c .before .before .before .before .start .ensures, sym (c .before .before .before .new-round .ensures), ne-eqb _ _ (c .if1 .left))
 
 pub cutter-start-spec : {M : Type 1} → statement M
-cutter-start-spec = tie.close (tie.spec start-requires new-round-requires returns returns-2)
+cutter-start-spec = tie.close (tie.spec (λ c κs. search needs) (λ c κs. search needs) returns returns-2)

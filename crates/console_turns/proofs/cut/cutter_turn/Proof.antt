@@ -6,31 +6,20 @@ use borrow.Author.Needs.{needs}
 use Rattle.console_turns.proofs.cut.cutter_turn.Statement.{statement}
 use Rattle.console_turns.proofs.cut.cutter_turn.Tie as tie
 
-cutter-pass-requires : tie.Need-cutter-pass-requires
-cutter-pass-requires c κs = search needs
-
 returns : tie.Need-returns
 unfolding cutterTurn
 returns c = simp (eq-eqb _ _ (c .before .if1 .taken)) (c .cutter-pass .ensures)
-
-pressed-requires : tie.Need-pressed-requires
-pressed-requires c κs = search needs
 
 returns-2 : tie.Need-returns-2
 unfolding cutterTurn
 returns-2 c = simp (ne-eqb _ _ (c .before .before .if1 .left), sym (c .before .pressed .ensures) ∙ c .if2 .taken)
 
-pressed-requires-2 : tie.Need-pressed-requires-2
-pressed-requires-2 c κs = search needs
-
-cutter-start-requires : tie.Need-cutter-start-requires
-cutter-start-requires c κs = search needs
-
 returns-3 : tie.Need-returns-3
 unfolding cutterTurn
 returns-3 c =
     let b = c .before .before .before in
-    simp (ne-eqb _ _ (b .before .before .if1 .left), sym (b .before .pressed .ensures) ∙ b .if2 .left, sym (c .before .before .pressed2 .ensures) ∙ c .before .if3 .taken) (c .cutter-start .ensures)
+    simp (ne-eqb _ _ (b .before .before .if1 .left), sym (b .before .pressed .ensures) ∙ b .if2 .left, sym (c .before .before .pressed2 .ensures) ∙ c .before .if3 .taken)
+    (c .cutter-start .ensures)
 
 returns-4 : tie.Need-returns-4
 unfolding cutterTurn
@@ -42,11 +31,11 @@ pub cutter-turn-spec : {M : Type 1} → statement M
 cutter-turn-spec =
     tie.close
     (tie.spec
-    cutter-pass-requires
+    (λ c κs. search needs)
     returns
-    pressed-requires
+    (λ c κs. search needs)
     returns-2
-    pressed-requires-2
-    cutter-start-requires
+    (λ c κs. search needs)
+    (λ c κs. search needs)
     returns-3
     returns-4)

@@ -19,20 +19,8 @@ abbrev μ-loop : tie.MeasureT-loop
 loop-holds : tie.Need-loop-holds Inv-loop μ-loop
 loop-holds c = (omega arith, refl, refl)
 
-slice-read-bytes : tie.Need-slice-read-bytes Inv-loop μ-loop
-slice-read-bytes c = search needs
-
-limit-requires : tie.Need-limit-requires Inv-loop μ-loop
-limit-requires c κs = search needs
-
 rem-bytes : tie.Need-rem-bytes Inv-loop μ-loop
 rem-bytes c = rw (c .limit .ensures) (limit-positive _)
-
-slice-write-bytes : tie.Need-slice-write-bytes Inv-loop μ-loop
-slice-write-bytes c = search needs
-
-add-i : tie.Need-add-i Inv-loop μ-loop
-add-i c = search needs
 
 loop-less : tie.Need-loop-less Inv-loop μ-loop
 loop-less c = omega arith
@@ -42,9 +30,6 @@ loop-again c =
     let s = c .before .before .before .loop in
     let h : s .i < length (s .bytes) = omega (arith, s .inv .1) in
     (omega arith, length-set (s .bytes) (s .i) _ ∙ s .inv .1, rw (c .limit .ensures) (draws-more (s .bytes) (s .i) h (s .inv .2)))
-
-same-length : tie.Need-same-length Inv-loop μ-loop
-same-length c = search needs
 
 returns : tie.Need-returns Inv-loop μ-loop
 returns c =
@@ -59,12 +44,12 @@ to-draws-spec =
     Inv-loop
     μ-loop
     loop-holds
-    slice-read-bytes
-    limit-requires
+    (λ c. search needs)
+    (λ c κs. search needs)
     rem-bytes
-    slice-write-bytes
-    add-i
+    (λ c. search needs)
+    (λ c. search needs)
     loop-less
     loop-again
-    same-length
+    (λ c. search needs)
     returns)

@@ -3,14 +3,8 @@ use borrow.Author.Needs.{needs}
 use Rattle.console_turns.proofs.mining.mine_start.Statement.{statement}
 use Rattle.console_turns.proofs.mining.mine_start.Tie as tie
 
-start-requires : tie.Need-start-requires
-start-requires c κs = search needs
-
-load-requires : tie.Need-load-requires
-load-requires c κs = search needs
-
 returns : tie.Need-returns
 returns c = rw (c .load .ensures, c .before .start .ensures)
 
 pub mine-start-spec : {M : Type 1} → statement M
-mine-start-spec = tie.close (tie.spec start-requires load-requires returns)
+mine-start-spec = tie.close (tie.spec (λ c κs. search needs) (λ c κs. search needs) returns)

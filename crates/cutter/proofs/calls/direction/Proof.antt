@@ -10,9 +10,6 @@ use Rattle.cutter.proofs.calls.direction.Statement.{statement}
 use Rattle.cutter.proofs.calls.direction.Tie as tie
 use Rattle.controls.specs.Keys.{LEFT}
 
-check-requires : tie.Need-check-requires
-check-requires c κs = search needs
-
 returns : tie.Need-returns
 unfolding directionCall
 returns c =
@@ -26,9 +23,6 @@ returns-2 c =
     let by = by-second (refused (a .c)) (answered (directed (a .c) (a .dir))) (c .before .before .check .ensures) COMMAND (c .before .if1 .left) in
     rw (lt-leb (a .dir) LEFT (c .if2 .taken)) by
 
-direction-requires : tie.Need-direction-requires
-direction-requires c κs = search needs
-
 returns-3 : tie.Need-returns-3
 unfolding directionCall
 returns-3 c =
@@ -37,4 +31,4 @@ returns-3 c =
     rw (le-leb (a .dir) LEFT (c .before .if2 .left)) (ap answered (c .direction .ensures) ∙ by)
 
 pub direction-spec : {M : Type 1} → statement M
-direction-spec = tie.close (tie.spec check-requires returns returns-2 direction-requires returns-3)
+direction-spec = tie.close (tie.spec (λ c κs. search needs) returns returns-2 (λ c κs. search needs) returns-3)

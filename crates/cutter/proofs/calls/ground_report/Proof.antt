@@ -10,21 +10,9 @@ use Rattle.cutter.proofs.calls.ground_report.Statement.{statement}
 use Rattle.cutter.proofs.calls.ground_report.Tie as tie
 use Rattle.cutter_ground.specs.Cells.{INNER}
 
-check-requires : tie.Need-check-requires
-check-requires c κs = search needs
-
 returns : tie.Need-returns
 unfolding reportCall
 returns c = let s = c .before .before .args .t1 in turned-away unreported (reported s) (c .before .check .ensures) (c .if1 .taken)
-
-black-count-requires : tie.Need-black-count-requires
-black-count-requires c κs = search needs
-
-count-of-requires : tie.Need-count-of-requires
-count-of-requires c κs = search needs
-
-count-of-requires-2 : tie.Need-count-of-requires-2
-count-of-requires-2 c κs = search needs
 
 share-of-requires : tie.Need-share-of-requires
 share-of-requires c κs =
@@ -48,10 +36,10 @@ pub ground-report-spec : {M : Type 1} → statement M
 ground-report-spec =
     tie.close
     (tie.spec
-    check-requires
+    (λ c κs. search needs)
     returns
-    black-count-requires
-    count-of-requires
-    count-of-requires-2
+    (λ c κs. search needs)
+    (λ c κs. search needs)
+    (λ c κs. search needs)
     share-of-requires
     returns-2)

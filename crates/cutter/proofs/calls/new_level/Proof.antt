@@ -9,21 +9,12 @@ use Rattle.cutter.specs.Calls.{refused, answered, levelCall}
 use Rattle.cutter.proofs.calls.new_level.Statement.{statement}
 use Rattle.cutter.proofs.calls.new_level.Tie as tie
 
-check-requires : tie.Need-check-requires
-check-requires c κs = search needs
-
 returns : tie.Need-returns
 unfolding levelCall
 returns c =
     let k = c .before in
     let a = k .before .before .args in
     turned-away-first (refused (a .c)) (answered (freshLevel (a .c) (a .draws .now))) (k .check .ensures) _ (c .if1 .taken)
-
-creatures-of-requires : tie.Need-creatures-of-requires
-creatures-of-requires c κs = search needs
-
-draws-ok-requires : tie.Need-draws-ok-requires
-draws-ok-requires c κs = search needs
 
 new-level-requires : tie.Need-new-level-requires
 new-level-requires c κs =
@@ -36,7 +27,8 @@ returns-2 c =
     let d = c .before .before in
     let k = d .before .before .before in
     let a = k .before .before .args in
-    let ok : drawsOk (a .draws .now) (creaturesOf (a .c .level)) ≡ true = ap (drawsOk (a .draws .now)) (sym (d .before .«creatures-of» .ensures)) ∙ sym (d .«draws-ok» .ensures) ∙ c .before .if2 .taken in
+    let ok : drawsOk (a .draws .now) (creaturesOf (a .c .level)) ≡ true = ap (drawsOk (a .draws .now)) (sym (d .before .«creatures-of» .ensures))
+    ∙ sym (d .«draws-ok» .ensures) ∙ c .before .if2 .taken in
     let by = by-second (refused (a .c)) (answered (freshLevel (a .c) (a .draws .now))) (k .check .ensures) NONE (d .before .before .if1 .left) in
     rw ok (ap answered (c .«new-level» .ensures) ∙ by)
 
@@ -46,7 +38,8 @@ returns-3 c =
     let d = c .before in
     let k = d .before .before .before in
     let a = k .before .before .args in
-    let no : drawsOk (a .draws .now) (creaturesOf (a .c .level)) ≡ false = ap (drawsOk (a .draws .now)) (sym (d .before .«creatures-of» .ensures)) ∙ sym (d .«draws-ok» .ensures) ∙ c .if2 .left in
+    let no : drawsOk (a .draws .now) (creaturesOf (a .c .level)) ≡ false = ap (drawsOk (a .draws .now)) (sym (d .before .«creatures-of» .ensures))
+    ∙ sym (d .«draws-ok» .ensures) ∙ c .if2 .left in
     let by = by-second (refused (a .c)) (answered (freshLevel (a .c) (a .draws .now))) (k .check .ensures) DRAWS (d .before .before .if1 .left) in
     rw no by
 
@@ -54,10 +47,10 @@ pub new-level-spec : {M : Type 1} → statement M
 new-level-spec =
     tie.close
     (tie.spec
-    check-requires
+    (λ c κs. search needs)
     returns
-    creatures-of-requires
-    draws-ok-requires
+    (λ c κs. search needs)
+    (λ c κs. search needs)
     new-level-requires
     returns-2
     returns-3)

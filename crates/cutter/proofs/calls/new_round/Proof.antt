@@ -11,15 +11,6 @@ use Rattle.cutter.specs.Calls.{FIRST-LEVEL, refused, answered, roundCall
 use Rattle.cutter.proofs.calls.new_round.Statement.{statement}
 use Rattle.cutter.proofs.calls.new_round.Tie as tie
 
-no-state-requires : tie.Need-no-state-requires
-no-state-requires c κs = search needs
-
-creatures-of-requires : tie.Need-creatures-of-requires
-creatures-of-requires c κs = search needs
-
-draws-ok-requires : tie.Need-draws-ok-requires
-draws-ok-requires c κs = search needs
-
 new-level-requires : tie.Need-new-level-requires
 new-level-requires c κs =
     let d = c .before in
@@ -31,7 +22,8 @@ unfolding roundCall
 returns c =
     let d = c .before .before in
     let draws = d .before .before .before .before .args .draws .now in
-    let ok : drawsOk draws (creaturesOf FIRST-LEVEL) ≡ true = ap (drawsOk draws) (sym (d .before .«creatures-of» .ensures)) ∙ sym (d .«draws-ok» .ensures) ∙ c .before .if1 .taken in
+    let ok : drawsOk draws (creaturesOf FIRST-LEVEL) ≡ true = ap (drawsOk draws) (sym (d .before .«creatures-of» .ensures)) ∙ sym (d .«draws-ok» .ensures)
+    ∙ c .before .if1 .taken in
     rw ok (ap answered (c .«new-level» .ensures ∙ ap (λ (z : Cutter). freshLevel (withLives (withLevel z FIRST-LEVEL) MAX-LIVES) draws) (d .before .before .«no-state» .ensures)))
 
 returns-2 : tie.Need-returns-2
@@ -46,9 +38,9 @@ pub new-round-spec : {M : Type 1} → statement M
 new-round-spec =
     tie.close
     (tie.spec
-    no-state-requires
-    creatures-of-requires
-    draws-ok-requires
+    (λ c κs. search needs)
+    (λ c κs. search needs)
+    (λ c κs. search needs)
     new-level-requires
     returns
     returns-2)

@@ -7,15 +7,9 @@ use Rattle.cutter.specs.Calls.{refused, answered, respawnCall}
 use Rattle.cutter.proofs.calls.respawn.Statement.{statement}
 use Rattle.cutter.proofs.calls.respawn.Tie as tie
 
-check-requires : tie.Need-check-requires
-check-requires c κs = search needs
-
 returns : tie.Need-returns
 unfolding respawnCall
 returns c = let s = c .before .before .args .c in turned-away (refused s) (answered (respawned s)) (c .before .check .ensures) (c .if1 .taken)
-
-respawn-requires : tie.Need-respawn-requires
-respawn-requires c κs = search needs
 
 returns-2 : tie.Need-returns-2
 unfolding respawnCall
@@ -24,4 +18,4 @@ returns-2 c =
     let-in (refused s) (answered (respawned s)) (c .before .before .check .ensures) (ap answered (c .«respawn» .ensures)) (c .before .if1 .left)
 
 pub respawn-spec : {M : Type 1} → statement M
-respawn-spec = tie.close (tie.spec check-requires returns respawn-requires returns-2)
+respawn-spec = tie.close (tie.spec (λ c κs. search needs) returns (λ c κs. search needs) returns-2)

@@ -8,9 +8,6 @@ use Rattle.cutter.specs.Calls.{refused, answered, sweepsCall}
 use Rattle.cutter.proofs.calls.step_by_sweeps.Statement.{statement}
 use Rattle.cutter.proofs.calls.step_by_sweeps.Tie as tie
 
-check-requires : tie.Need-check-requires
-check-requires c κs = search needs
-
 returns : tie.Need-returns
 unfolding sweepsCall
 returns c = let s = c .before .before .args .c in turned-away (refused s) (answered (sweptStep s)) (c .before .check .ensures) (c .if1 .taken)
@@ -25,4 +22,4 @@ returns-2 c =
     let-in (refused s) (answered (sweptStep s)) (c .before .before .check .ensures) (ap answered (c .«step-by-sweeps» .ensures)) (c .before .if1 .left)
 
 pub step-by-sweeps-spec : {M : Type 1} → statement M
-step-by-sweeps-spec = tie.close (tie.spec check-requires returns step-by-sweeps-requires returns-2)
+step-by-sweeps-spec = tie.close (tie.spec (λ c κs. search needs) returns step-by-sweeps-requires returns-2)

@@ -8,9 +8,6 @@ use Rattle.cutter.specs.Calls.{refused, answered, enemiesCall}
 use Rattle.cutter.proofs.calls.step_enemies.Statement.{statement}
 use Rattle.cutter.proofs.calls.step_enemies.Tie as tie
 
-check-requires : tie.Need-check-requires
-check-requires c κs = search needs
-
 returns : tie.Need-returns
 unfolding enemiesCall
 returns c = let s = c .before .before .args .c in turned-away (refused s) (answered (enemiesStepped s)) (c .before .check .ensures) (c .if1 .taken)
@@ -25,4 +22,4 @@ returns-2 c =
     let-in (refused s) (answered (enemiesStepped s)) (c .before .before .check .ensures) (ap answered (c .«step-enemies» .ensures)) (c .before .if1 .left)
 
 pub step-enemies-spec : {M : Type 1} → statement M
-step-enemies-spec = tie.close (tie.spec check-requires returns step-enemies-requires returns-2)
+step-enemies-spec = tie.close (tie.spec (λ c κs. search needs) returns step-enemies-requires returns-2)

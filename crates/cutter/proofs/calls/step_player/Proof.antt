@@ -8,9 +8,6 @@ use Rattle.cutter.specs.Calls.{refused, answered, stepCall}
 use Rattle.cutter.proofs.calls.step_player.Statement.{statement}
 use Rattle.cutter.proofs.calls.step_player.Tie as tie
 
-check-requires : tie.Need-check-requires
-check-requires c κs = search needs
-
 returns : tie.Need-returns
 unfolding stepCall
 returns c = let s = c .before .before .args .c in turned-away (refused s) (answered (stepped s)) (c .before .check .ensures) (c .if1 .taken)
@@ -25,4 +22,4 @@ returns-2 c =
     let-in (refused s) (answered (stepped s)) (c .before .before .check .ensures) (ap answered (c .«step-player» .ensures)) (c .before .if1 .left)
 
 pub step-player-spec : {M : Type 1} → statement M
-step-player-spec = tie.close (tie.spec check-requires returns step-player-requires returns-2)
+step-player-spec = tie.close (tie.spec (λ c κs. search needs) returns step-player-requires returns-2)

@@ -1,4 +1,5 @@
--- `cutter::who_of` meets its contract: a walk of its MIR, by hand. The array is copied to a local, the first k of it are lent to `who` for a lifetime that is made here, and `who`'s answer is returned.
+-- `cutter::who_of` meets its contract: a walk of its MIR, by hand. The array is copied to a local, the first k of it are lent to `who` for a
+-- lifetime that is made here, and `who`'s answer is returned.
 -- All that the proof knows of `who` is that it meets its contract. Assumes nothing.
 use mathlib.Core.Path.{_≡_, refl, sym, ap, _∙_}
 use Prim.Native.Nat.{ℕ, _≤_, _<_, _^_}
@@ -20,10 +21,12 @@ use prog.Wp.{Heap, Env, Calls, Loops, Wp, atReturn, WpFn, Tables}
 use ghost.Atoms.{Atoms, sem}
 use contract.Monad.{Fun, fact}
 use contract.Running.{givenOf, tables, tablesOf}
-use types.Kit.{Given, Item, ‵, raw, some, later, _⊛_, runs, atRet, prop, Sq, _$_, _∵_, !, qed, by, move, drop, use1, use2, split, join, pick, rewrite, fjoin, suffices, frame, await, done}
+use types.Kit.{Given, Item, ‵, raw, some, later, _⊛_, runs, atRet, prop, Sq, _$_, _∵_, !, qed, by, move, drop, use1, use2, split, join, pick, rewrite}
+use types.Kit.{fjoin, suffices, frame, await, done}
 use types.Tokens.{lft-new, lft-end}
 use types.Part.{agg}
-use types.Run.{look, init, store, forget, stop, from, load, lit, of-opd, bin, addr, and-then, no-more, assigns, assigns-last, first, skips, branches, land, returns, enter, alloc1, alloc0, params1, pass1, pass0, free1, free0, exec}
+use types.Run.{look, init, store, forget, stop, from, load, lit, of-opd, bin, addr, and-then, no-more, assigns, assigns-last, first, skips, branches}
+use types.Run.{land, returns, enter, alloc1, alloc0, params1, pass1, pass0, free1, free0, exec}
 use sound.WpLaws.{FmC, fmOf, WpFn-mono}
 use denote.RattleType.{RattleType, owns}
 use denote.Laws.{Is, shows}
@@ -112,9 +115,11 @@ module _ {M : Type 1} (𝓤 : URA M) (H : Heap 𝓤) (A : Atoms 𝓤) (W : Given
   exits : (f : Found) (u : Val) → Is F.the-row f (u ∷ []) → f ≡ found → ent 𝓤 (sem 𝓤 H A ftrue) (Post u)
   exits f u is e =
       qed W (‵ ftrue ∷ []) ∵
-      suffices ! _ (ends-at 𝓤 H A who-of.ended stayed (who-of.clauses 𝓤 H A at-mem run) W ((tt, tt, tt, a, at), tt) u f (tt, (tt, (tt, (tt, tt)))) (tt, (tt, (tt, (tt, tt))))) $ says ! e $ frame ! $
+      suffices ! _ (ends-at 𝓤 H A who-of.ended stayed (who-of.clauses 𝓤 H A at-mem run) W ((tt, tt, tt, a, at), tt) u f (tt, (tt, (tt, (tt, tt))))
+      (tt, (tt, (tt, (tt, tt))))) $ says ! e $ frame ! $
       nothing ! $ owned ! usize (Is usize) (uint-makes 𝓤 H A W w64) y _ (refl, y-fits) $ fjoin ! $ owned ! usize (Is usize) (uint-makes 𝓤 H A W w64) x _ (refl, x-fits) $ fjoin ! $
-      owned ! usize (Is usize) (uint-makes 𝓤 H A W w64) n _ (refl, n-fits) $ fjoin ! $ owned ! Row (Is Row) (array-makes 𝓤 H A W E.the-row (LL.makes E.the-type E′.the-plain 𝓤 H A) most) es _ es-is $ fjoin ! $
+      owned ! usize (Is usize) (uint-makes 𝓤 H A W w64) n _ (refl, n-fits) $ fjoin ! $
+      owned ! Row (Is Row) (array-makes 𝓤 H A W E.the-row (LL.makes E.the-type E′.the-plain 𝓤 H A) most) es _ es-is $ fjoin ! $
       owned ! F.the-row (Is F.the-row) (EL.makes F.the-type F′.the-plain 𝓤 H A) f _ is $ move ! (1 ∷ 0 ∷ []) $ done !
 
   typed : T (hasTy array (only (vals es))) × WT (only (vals es))
@@ -147,7 +152,8 @@ module _ {M : Type 1} (𝓤 : URA M) (H : Heap 𝓤) (A : Atoms 𝓤) (W : Given
 
     goes : (γ : GName) → ent 𝓤 (sep 𝓤 (A .lft (α ∷ []) fullShare) (sem 𝓤 H A (Lent γ))) (Who 𝓤 H A at-mem run .pre (to γ))
     goes γ =
-        qed W (‵ (flft (α ∷ []) fullShare) ∷ ‵ (Lent γ) ∷ []) ∵ nothing ! $ owned ! usize (Is usize) (uint-makes 𝓤 H A W w64) y _ (refl, y-fits) $ fjoin ! $ owned ! usize (Is usize) (uint-makes 𝓤 H A W w64) x _ (refl, x-fits) $ fjoin ! $
+        qed W (‵ (flft (α ∷ []) fullShare) ∷ ‵ (Lent γ) ∷ []) ∵ nothing ! $ owned ! usize (Is usize) (uint-makes 𝓤 H A W w64) y _ (refl, y-fits) $ fjoin ! $
+        owned ! usize (Is usize) (uint-makes 𝓤 H A W w64) x _ (refl, x-fits) $ fjoin ! $
         move ! (2 ∷ 0 ∷ []) $ fjoin ! $ nothing ! $ move ! (2 ∷ 0 ∷ []) $ join ! $ join ! $ frame ! $ done !
 
     said : (γ : GName) (r : Found) → ent 𝓤 (ensured 𝓤 H A who.ended (who.clauses 𝓤 H A at-mem run) (α ∷ [], tt) (args γ) tt r) (fact 𝓤 (r ≡ whoAt (take k es) x y))
@@ -159,11 +165,14 @@ module _ {M : Type 1} (𝓤 : URA M) (H : Heap 𝓤) (A : Atoms 𝓤) (W : Given
 
     -- the array's copy and the parameters; and what is held where k is settled
     abbrev Params : List (Item 𝓤)
-    Params = ‵ (fat fullShare array l₅ 0 (only (vals es))) ∷ ‵ (fdies array l₅) ∷ ‵ (fat fullShare word l₄ 0 (vint w64 y)) ∷ ‵ (fdies word l₄) ∷ ‵ (fat fullShare word l₃ 0 (vint w64 x)) ∷ ‵ (fdies word l₃)
-        ∷ ‵ (fat fullShare word l₂ 0 (vint w64 n)) ∷ ‵ (fdies word l₂) ∷ ‵ (fat fullShare array l₁ 0 (only (vals es))) ∷ ‵ (fdies array l₁) ∷ ‵ (froom F′.mir l₀ 0) ∷ ‵ (fdies F′.mir l₀) ∷ []
+    Params = ‵ (fat fullShare array l₅ 0 (only (vals es))) ∷ ‵ (fdies array l₅) ∷ ‵ (fat fullShare word l₄ 0 (vint w64 y)) ∷ ‵ (fdies word l₄) ∷ ‵
+        (fat fullShare word l₃ 0 (vint w64 x)) ∷ ‵ (fdies word l₃)
+        ∷ ‵ (fat fullShare word l₂ 0 (vint w64 n)) ∷ ‵ (fdies word l₂) ∷ ‵ (fat fullShare array l₁ 0 (only (vals es))) ∷ ‵ (fdies array l₁) ∷ ‵ (froom F′.mir l₀ 0) ∷ ‵
+        (fdies F′.mir l₀) ∷ []
 
     abbrev Ctx : ℕ → List (Item 𝓤)
-    Ctx k = ‵ (froom slice l₉ 0) ∷ ‵ (fdies slice l₉) ∷ ‵ (froom ref l₈ 0) ∷ ‵ (fdies ref l₈) ∷ ‵ (froom tyBool l₇ 0) ∷ ‵ (fdies tyBool l₇) ∷ ‵ (fat fullShare word l₆ 0 (vint w64 k)) ∷ ‵ (fdies word l₆)
+    Ctx k = ‵ (froom slice l₉ 0) ∷ ‵ (fdies slice l₉) ∷ ‵ (froom ref l₈ 0) ∷ ‵ (fdies ref l₈) ∷ ‵ (froom tyBool l₇ 0) ∷ ‵ (fdies tyBool l₇) ∷ ‵
+        (fat fullShare word l₆ 0 (vint w64 k)) ∷ ‵ (fdies word l₆)
         ∷ Params
 
     asks : (k : ℕ) → k ≤ most → take k es ≡ take n es → Sq W (Ctx k) (prop (Wp 𝓤 H C Λ En pieces.t-5 (atReturn 𝓤 H En Post)))
@@ -174,25 +183,33 @@ module _ {M : Type 1} (𝓤 : URA M) (H : Heap 𝓤) (A : Atoms 𝓤) (W : Given
         rewrite ! 0 (λ (j : ℕ). ‵ (fat fullShare slice l₉ 0 (sliceVal (l₅, 0) j))) (sym (taken k le)) refl $
         lft-new ! tt (λ α. move ! (9 ∷ []) $
         use1 W (later (some (λ (γ : GName). ‵ (Lent k l₅ α γ) ⊛ ‵ (Rest k l₅ α))))
-        (lends-part 𝓤 H A W E.the-row tt (LL.vals E.the-type E′.the-laws) (LL.tells E.the-type E′.the-laws) (LL.makes E.the-type E′.the-plain 𝓤 H A) most es k l₅ (α ∷ []) es-is (roomy k)) $ await ! tt $ pick ! (λ γ. split ! $
+        (lends-part 𝓤 H A W E.the-row tt (LL.vals E.the-type E′.the-laws) (LL.tells E.the-type E′.the-laws) (LL.makes E.the-type E′.the-plain 𝓤 H A) most es k l₅
+        (α ∷ []) es-is (roomy k)) $ await ! tt $ pick ! (λ γ. split ! $
         -- [the slice; what is kept; the token; _9; …; _6; …; what frees _5; _4; …; _0; …]
         move ! (2 ∷ 0 ∷ []) $ use2 W (raw (Who 𝓤 H A at-mem run .pre (to k l₅ α γ))) (goes k l₅ α γ) $
-        calls-at ! fm (Who 𝓤 H A at-mem run) known (to k l₅ α γ) (and-then ! (load ! (from ! (stop !)) (look ! 2 refl)) (and-then ! (load ! (from ! (stop !)) (look ! 13 refl)) (and-then ! (load ! (from ! (stop !)) (look ! 11 refl)) (no-more !)))) (λ u.
-        use1 W (later (some (λ (r : Found). ((‵ (flft (α ∷ []) fullShare) ⊛ ‵ ftrue) ⊛ ‵ (F.the-row .own r (u ∷ []))) ⊛ raw (ensured 𝓤 H A who.ended (who.clauses 𝓤 H A at-mem run) (α ∷ [], tt) (args k l₅ α γ) tt r)))) (id⊢ 𝓤 _) $ await ! tt $ pick ! (λ r.
+        calls-at ! fm (Who 𝓤 H A at-mem run) known (to k l₅ α γ)
+        (and-then ! (load ! (from ! (stop !)) (look ! 2 refl))
+        (and-then ! (load ! (from ! (stop !)) (look ! 13 refl)) (and-then ! (load ! (from ! (stop !)) (look ! 11 refl)) (no-more !)))) (λ u.
+        use1 W (later (some (λ (r : Found). ((‵ (flft (α ∷ []) fullShare) ⊛ ‵ ftrue) ⊛ ‵ (F.the-row .own r (u ∷ []))) ⊛ raw
+        (ensured 𝓤 H A who.ended (who.clauses 𝓤 H A at-mem run) (α ∷ [], tt) (args k l₅ α γ) tt r)))) (id⊢ 𝓤 _) $ await ! tt $ pick ! (λ r.
         split ! $ move ! (1 ∷ []) $ use1 W (raw (fact 𝓤 (r ≡ whoAt (take k es) x y))) (said k l₅ α γ r) $ heard ! (r ≡ whoAt (take k es) x y) (λ e. split ! $ move ! (1 ∷ []) $
         peeks ! F.the-row (Is F.the-row) (shows 𝓤 H A F.the-row) r (u ∷ []) (λ is. drop ! $
         land ! (from ! (stop !)) (init ! 19 refl (EL.lawful F.the-type F′.the-laws 𝓤 H A W tt .typed r _ is .0)) $
         split ! $ lft-end ! tt $ move ! (0 ∷ 2 ∷ []) $
         use2 W (later (‵ (fat fullShare array l₅ 0 (only (vals es)))))
-        (part-back 𝓤 H A W E.the-row tt (LL.vals E.the-type E′.the-laws) (LL.tells E.the-type E′.the-laws) (LL.makes E.the-type E′.the-plain 𝓤 H A) most es k l₅ (α ∷ [])) $ await ! tt $
+        (part-back 𝓤 H A W E.the-row tt (LL.vals E.the-type E′.the-laws) (LL.tells E.the-type E′.the-laws) (LL.makes E.the-type E′.the-plain 𝓤 H A) most es k l₅ (α ∷ []))
+        $ await ! tt $
         -- [_5; true; _9; …; _8; …; _7; …; _6; …; what frees _5; _4; …; _0; …]
-        returns ! (look ! 19 refl) $ forget ! 0 refl $ forget ! 2 refl $ forget ! 4 refl $ forget ! 8 refl $ forget ! 11 refl $ forget ! 13 refl $ forget ! 15 refl $ forget ! 17 refl $ forget ! 19 refl $
-        move ! (19 ∷ 20 ∷ []) $ free1 ! $ move ! (17 ∷ 18 ∷ []) $ free1 ! $ move ! (15 ∷ 16 ∷ []) $ free1 ! $ move ! (13 ∷ 14 ∷ []) $ free1 ! $ move ! (11 ∷ 12 ∷ []) $ free1 ! $ move ! (0 ∷ 10 ∷ []) $ free1 ! $
+        returns ! (look ! 19 refl) $ forget ! 0 refl $ forget ! 2 refl $ forget ! 4 refl $ forget ! 8 refl $ forget ! 11 refl $ forget ! 13 refl $ forget ! 15 refl $
+        forget ! 17 refl $ forget ! 19 refl $
+        move ! (19 ∷ 20 ∷ []) $ free1 ! $ move ! (17 ∷ 18 ∷ []) $ free1 ! $ move ! (15 ∷ 16 ∷ []) $ free1 ! $ move ! (13 ∷ 14 ∷ []) $ free1 ! $ move ! (11 ∷ 12 ∷ []) $
+        free1 ! $ move ! (0 ∷ 10 ∷ []) $ free1 ! $
         move ! (7 ∷ 8 ∷ []) $ free1 ! $ move ! (5 ∷ 6 ∷ []) $ free1 ! $ move ! (3 ∷ 4 ∷ []) $ free1 ! $ move ! (1 ∷ 2 ∷ []) $ free1 ! $ free0 ! $
         by ! (exits r u is (e ∙ ap (λ (l : List Mover). whoAt l x y) same))))))))
 
     -- k is n, or all there are where n is more
-    settles : Sq W (‵ (froom slice l₉ 0) ∷ ‵ (fdies slice l₉) ∷ ‵ (froom ref l₈ 0) ∷ ‵ (fdies ref l₈) ∷ ‵ (froom tyBool l₇ 0) ∷ ‵ (fdies tyBool l₇) ∷ ‵ (froom word l₆ 0) ∷ ‵ (fdies word l₆) ∷ Params) (runs C Λ En pieces.t-2 (atRet En Post))
+    settles : Sq W (‵ (froom slice l₉ 0) ∷ ‵ (fdies slice l₉) ∷ ‵ (froom ref l₈ 0) ∷ ‵ (fdies ref l₈) ∷ ‵ (froom tyBool l₇ 0) ∷ ‵ (fdies tyBool l₇) ∷ ‵
+        (froom word l₆ 0) ∷ ‵ (fdies word l₆) ∷ Params) (runs C Λ En pieces.t-2 (atRet En Post))
     settles =
         assigns ! (of-opd ! (load ! (from ! (stop !)) (look ! 14 refl))) (from ! (stop !)) (init ! 6 refl (tt, record { fits = n-fits })) $
         assigns ! (bin ! (lit ! tt) (load ! (from ! (stop !)) (look ! 14 refl)) tt) (from ! (stop !)) (init ! 4 refl (tt, tt)) $
@@ -200,24 +217,37 @@ module _ {M : Type 1} (𝓤 : URA M) (H : Heap 𝓤) (A : Atoms 𝓤) (W : Given
         (λ more. assigns-last ! (of-opd ! (lit ! tt)) (from ! (stop !)) (store ! 6 refl (tt, record { fits = lit< tt })) $ forget ! 4 refl $ asks most (lit≤ tt) (over more))
         (λ few. skips ! $ forget ! 4 refl $ asks n (nltb→le most n few) refl)
 
-  walk : (𝓣 : Tables 𝓤 H) → Triple 𝓤 (𝓣 .C #who) (Who 𝓤 H A at-mem run) → ent 𝓤 (onEntry 𝓤 H A who-of.signature tt tt a at) (WpFn 𝓤 H (𝓣 .C) (𝓣 .Λ) code.function (only (vals es) ∷ vint w64 n ∷ vint w64 x ∷ vint w64 y ∷ []) Post)
+  walk : (𝓣 : Tables 𝓤 H) → Triple 𝓤 (𝓣 .C #who) (Who 𝓤 H A at-mem run)
+      → ent 𝓤 (onEntry 𝓤 H A who-of.signature tt tt a at) (WpFn 𝓤 H (𝓣 .C) (𝓣 .Λ) code.function (only (vals es) ∷ vint w64 n ∷ vint w64 x ∷ vint w64 y ∷ []) Post)
   walk 𝓣 known =
-      qed W (‵ ftrue ∷ ‵ (owns (Row ∷ usize ∷ usize ∷ usize ∷ []) a at) ∷ []) ∵ drop ! $ drop ! $ enter ! (𝓣 .C) (𝓣 .Λ) code.function (only (vals es) ∷ vint w64 n ∷ vint w64 x ∷ vint w64 y ∷ []) _ $
-      alloc1 ! (λ l₀. alloc1 ! (λ l₁. alloc1 ! (λ l₂. alloc1 ! (λ l₃. alloc1 ! (λ l₄. alloc1 ! (λ l₅. alloc1 ! (λ l₆. alloc1 ! (λ l₇. alloc1 ! (λ l₈. alloc1 ! (λ l₉. alloc0 ! $ params1 ! $
-      pass1 ! (init ! 16 refl typed) $ pass1 ! (init ! 14 refl (tt, record { fits = n-fits })) $ pass1 ! (init ! 12 refl (tt, record { fits = x-fits })) $ pass1 ! (init ! 10 refl (tt, record { fits = y-fits })) $ pass0 ! $
+      qed W (‵ ftrue ∷ ‵ (owns (Row ∷ usize ∷ usize ∷ usize ∷ []) a at) ∷ []) ∵ drop ! $ drop ! $
+      enter ! (𝓣 .C) (𝓣 .Λ) code.function (only (vals es) ∷ vint w64 n ∷ vint w64 x ∷ vint w64 y ∷ []) _ $
+      alloc1 ! (λ l₀. alloc1 ! (λ l₁. alloc1 !
+      (λ l₂. alloc1 ! (λ l₃. alloc1 ! (λ l₄. alloc1 ! (λ l₅. alloc1 ! (λ l₆. alloc1 ! (λ l₇. alloc1 ! (λ l₈. alloc1 ! (λ l₉. alloc0 ! $ params1 ! $
+      pass1 ! (init ! 16 refl typed) $ pass1 ! (init ! 14 refl (tt, record { fits = n-fits })) $ pass1 ! (init ! 12 refl (tt, record { fits = x-fits })) $
+      pass1 ! (init ! 10 refl (tt, record { fits = y-fits })) $ pass0 ! $
       assigns ! (of-opd ! (load ! (from ! (stop !)) (look ! 16 refl))) (from ! (stop !)) (init ! 8 refl typed) $
       settles (𝓣 .C) (𝓣 .Λ) (fmOf 𝓤 H (W .laws) 𝓣) known l₀ l₁ l₂ l₃ l₄ l₅ l₆ l₇ l₈ l₉))))))))))
 
 module _ {M : Type 1} (𝓤 : URA M) (H : Heap 𝓤) (A : Atoms 𝓤) (W : Given 𝓤 H A) (mem : Memory → SProp 𝓤) (run : Routine → Fun 𝓤) where
   who-of-walks : (𝓣 : Tables 𝓤 H) → Triple 𝓤 (𝓣 .C #who) (Who 𝓤 H A mem run) → Walks 𝓤 H A who-of.ended stayed (WpFn 𝓤 H (𝓣 .C) (𝓣 .Λ) code.function) (who-of.clauses 𝓤 H A mem run)
-  who-of-walks 𝓣 known = walked 𝓤 H A who-of.ended stayed (who-of.clauses 𝓤 H A mem run) (WpFn 𝓤 H (𝓣 .C) (𝓣 .Λ) code.function) (λ κs. (vals, (uint-vals w64, (uint-vals w64, (uint-vals w64, tt)))))
+  who-of-walks 𝓣 known = walked 𝓤 H A who-of.ended stayed (who-of.clauses 𝓤 H A mem run) (WpFn 𝓤 H (𝓣 .C) (𝓣 .Λ) code.function)
+      (λ κs. (vals, (uint-vals w64, (uint-vals w64, (uint-vals w64, tt)))))
       (λ κs. (array-tells E.the-row (LL.vals E.the-type E′.the-laws) (LL.tells E.the-type E′.the-laws) most, (uint-tells w64, (uint-tells w64, (uint-tells w64, tt)))))
-      (λ κs qs bounds a g are. via 𝓤 _ (fst∗ 𝓤 _ (emp 𝓤)) (walk 𝓤 H A W mem run (a .0) (a .1 .0) (a .1 .1 .0) (a .1 .1 .1 .0) (are .0) (are .1 .0 .1) (are .1 .1 .0 .1) (are .1 .1 .1 .0 .1) 𝓣 known))
+      (λ κs qs bounds a g are. via 𝓤 _ (fst∗ 𝓤 _ (emp 𝓤))
+      (walk 𝓤 H A W mem run (a .0) (a .1 .0) (a .1 .1 .0) (a .1 .1 .1 .0) (are .0) (are .1 .0 .1) (are .1 .1 .0 .1) (are .1 .1 .1 .0 .1) 𝓣 known))
 
-who-of-meets : {M : Type 1} (𝓤 : URA M) (H : Heap 𝓤) (A : Atoms 𝓤) → Given 𝓤 H A → (mem : Memory → SProp 𝓤) (run : Routine → Fun 𝓤) (𝓣 : Tables 𝓤 H) → Triple 𝓤 (𝓣 .C #who) (Who 𝓤 H A mem run)
+who-of-meets : {M : Type 1} (𝓤 : URA M) (H : Heap 𝓤) (A : Atoms 𝓤) → Given 𝓤 H A → (mem : Memory → SProp 𝓤) (run : Routine → Fun 𝓤) (𝓣 : Tables 𝓤 H)
+    → Triple 𝓤 (𝓣 .C #who) (Who 𝓤 H A mem run)
     → Meets 𝓤 H A who-of.signature (WpFn 𝓤 H (𝓣 .C) (𝓣 .Λ) code.function) (who-of.spec 𝓤 H A mem run)
 who-of-meets 𝓤 H A W mem run 𝓣 known =
-    walk-meets 𝓤 H A who-of.ended stayed W (goes-none 𝓤 H A W 0 (λ _. Row) yes (λ κs x f. refl), (goes-none 𝓤 H A W 0 (λ _. usize) yes (λ κs x f. refl), (goes-none 𝓤 H A W 0 (λ _. usize) yes (λ κs x f. refl), (goes-none 𝓤 H A W 0 (λ _. usize) yes (λ κs x f. refl), tt))))
+    walk-meets 𝓤 H A who-of.ended stayed W (
+      goes-none 𝓤 H A W 0 (λ _. Row) yes (λ κs x f. refl),
+      (
+        goes-none 𝓤 H A W 0 (λ _. usize) yes (λ κs x f. refl),
+        (goes-none 𝓤 H A W 0 (λ _. usize) yes (λ κs x f. refl), (goes-none 𝓤 H A W 0 (λ _. usize) yes (λ κs x f. refl), tt)),
+      ),
+    )
     (who-of.clauses 𝓤 H A mem run) (WpFn 𝓤 H (𝓣 .C) (𝓣 .Λ) code.function) (WpFn-mono 𝓤 H (W .laws) 𝓣 code.function) (who-of-walks 𝓤 H A W mem run 𝓣 known)
 
 pub who-of-spec : {M : Type 1} → stated.statement M

@@ -6,16 +6,10 @@ use Rattle.cutter_moves.proofs.Along.{along-back, along-on, along-none}
 use Rattle.cutter_moves.proofs.ahead.side_of.Statement.{statement}
 use Rattle.cutter_moves.proofs.ahead.side_of.Tie as tie
 
-left-of-requires : tie.Need-left-of-requires
-left-of-requires c κs = search needs
-
 returns : tie.Need-returns
 returns c =
     let s = c .before .before in
     c .left-of .ensures ∙ along-back leftOf rightOf (s .args .at) (s .args .v) (below (s .args .v) (s .fits .v) (c .before .if1 .taken))
-
-right-of-requires : tie.Need-right-of-requires
-right-of-requires c κs = search needs
 
 returns-2 : tie.Need-returns-2
 returns-2 c =
@@ -28,4 +22,4 @@ returns-3 c =
     along-none leftOf rightOf (s .args .at) (s .args .v) (below (s .args .v) (s .fits .v) (c .before .if1 .left)) (above (s .args .v) (s .fits .v) (c .if2 .left))
 
 pub side-of-spec : {M : Type 1} → statement M
-side-of-spec = tie.close (tie.spec left-of-requires returns right-of-requires returns-2 returns-3)
+side-of-spec = tie.close (tie.spec (λ c κs. search needs) returns (λ c κs. search needs) returns-2 returns-3)

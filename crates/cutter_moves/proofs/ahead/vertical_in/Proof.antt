@@ -9,12 +9,6 @@ use Rattle.cutter_moves.proofs.Along.{along-back, along-unit}
 use Rattle.cutter_moves.proofs.ahead.vertical_in.Statement.{statement}
 use Rattle.cutter_moves.proofs.ahead.vertical_in.Tie as tie
 
-sub-result : tie.Need-sub-result
-sub-result c = search needs
-
-add-result : tie.Need-add-result
-add-result c = search needs
-
 returns : tie.Need-returns
 returns c =
     let s = c .before in
@@ -30,4 +24,4 @@ returns-2 c =
     (e ∙ along-unit upOf downOf t (s .args .v) (s .pre .unit) (below (s .args .v) (s .fits .v) (c .if1 .left)), omega (arith, s .pre), omega (arith, s .pre))
 
 pub vertical-in-spec : {M : Type 1} → statement M
-vertical-in-spec = tie.close (tie.spec sub-result add-result returns returns-2)
+vertical-in-spec = tie.close (tie.spec (λ c. search needs) (λ c. search needs) returns returns-2)

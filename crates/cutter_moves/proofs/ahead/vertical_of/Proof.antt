@@ -6,16 +6,10 @@ use Rattle.cutter_moves.proofs.Along.{along-back, along-on, along-none}
 use Rattle.cutter_moves.proofs.ahead.vertical_of.Statement.{statement}
 use Rattle.cutter_moves.proofs.ahead.vertical_of.Tie as tie
 
-up-of-requires : tie.Need-up-of-requires
-up-of-requires c κs = search needs
-
 returns : tie.Need-returns
 returns c =
     let s = c .before .before in
     c .up-of .ensures ∙ along-back upOf downOf (s .args .at) (s .args .v) (below (s .args .v) (s .fits .v) (c .before .if1 .taken))
-
-down-of-requires : tie.Need-down-of-requires
-down-of-requires c κs = search needs
 
 returns-2 : tie.Need-returns-2
 returns-2 c =
@@ -28,4 +22,4 @@ returns-3 c =
     along-none upOf downOf (s .args .at) (s .args .v) (below (s .args .v) (s .fits .v) (c .before .if1 .left)) (above (s .args .v) (s .fits .v) (c .if2 .left))
 
 pub vertical-of-spec : {M : Type 1} → statement M
-vertical-of-spec = tie.close (tie.spec up-of-requires returns down-of-requires returns-2 returns-3)
+vertical-of-spec = tie.close (tie.spec (λ c κs. search needs) returns (λ c κs. search needs) returns-2 returns-3)

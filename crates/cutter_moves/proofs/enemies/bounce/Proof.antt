@@ -12,12 +12,6 @@ use Rattle.cutter_moves.proofs.Roaming.{turned-unit, bounce-seen}
 use Rattle.cutter_moves.proofs.enemies.bounce.Statement.{statement}
 use Rattle.cutter_moves.proofs.enemies.bounce.Tie as tie
 
-turn-requires : tie.Need-turn-requires
-turn-requires c κs = search needs
-
-turn-requires-2 : tie.Need-turn-requires-2
-turn-requires-2 c κs = search needs
-
 go-requires : tie.Need-go-requires
 go-requires c κs =
     let fx : SFits w8 (c .before .before .before .before .args .e .vx) = search needs in
@@ -45,4 +39,4 @@ returns c =
     simp (p, q) at (c .go .ensures) ∙ bounce-seen (now (s .args .grid)) (s .args .e) (s .args .v) (s .pre .seen)
 
 pub bounce-spec : {M : Type 1} → statement M
-bounce-spec = tie.close (tie.spec turn-requires turn-requires-2 go-requires returns)
+bounce-spec = tie.close (tie.spec (λ c κs. search needs) (λ c κs. search needs) go-requires returns)

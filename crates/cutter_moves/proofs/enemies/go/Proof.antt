@@ -11,21 +11,6 @@ use Rattle.cutter_rules.proofs.Tick.{gone-there, gone-not}
 use Rattle.cutter_moves.proofs.enemies.go.Statement.{statement}
 use Rattle.cutter_moves.proofs.enemies.go.Tie as tie
 
-cell-of-requires : tie.Need-cell-of-requires
-cell-of-requires c κs = search needs
-
-vertical-in-requires : tie.Need-vertical-in-requires
-vertical-in-requires c κs = search needs
-
-side-in-requires : tie.Need-side-in-requires
-side-in-requires c κs = search needs
-
-element-copy-out-if1 : tie.Need-element-copy-out-if1
-element-copy-out-if1 c = search needs
-
-put-requires : tie.Need-put-requires
-put-requires c κs = search needs
-
 returns : tie.Need-returns
 returns c =
     let h = c .before .before .before in
@@ -54,10 +39,10 @@ pub go-spec : {M : Type 1} → statement M
 go-spec =
     tie.close
     (tie.spec
-    cell-of-requires
-    vertical-in-requires
-    side-in-requires
-    element-copy-out-if1
-    put-requires
+    (λ c κs. search needs)
+    (λ c κs. search needs)
+    (λ c κs. search needs)
+    (λ c. search needs)
+    (λ c κs. search needs)
     returns
     returns-2)

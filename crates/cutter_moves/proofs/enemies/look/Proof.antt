@@ -7,27 +7,6 @@ use Rattle.cutter_moves.proofs.Roaming.{seen}
 use Rattle.cutter_moves.proofs.enemies.look.Statement.{statement}
 use Rattle.cutter_moves.proofs.enemies.look.Tie as tie
 
-cell-of-requires : tie.Need-cell-of-requires
-cell-of-requires c κs = search needs
-
-side-in-requires : tie.Need-side-in-requires
-side-in-requires c κs = search needs
-
-vertical-in-requires : tie.Need-vertical-in-requires
-vertical-in-requires c κs = search needs
-
-side-in-requires-2 : tie.Need-side-in-requires-2
-side-in-requires-2 c κs = search needs
-
-element-copy-out-t9 : tie.Need-element-copy-out-t9
-element-copy-out-t9 c = search needs
-
-element-copy-out-t12 : tie.Need-element-copy-out-t12
-element-copy-out-t12 c = search needs
-
-element-copy-out-t15 : tie.Need-element-copy-out-t15
-element-copy-out-t15 c = search needs
-
 returns : tie.Need-returns
 returns c =
     let fx : SFits w8 (c .before .before .before .before .before .before .before .before .before .before .args .e .vx) = search needs in
@@ -46,11 +25,11 @@ pub look-spec : {M : Type 1} → statement M
 look-spec =
     tie.close
     (tie.spec
-    cell-of-requires
-    side-in-requires
-    vertical-in-requires
-    side-in-requires-2
-    element-copy-out-t9
-    element-copy-out-t12
-    element-copy-out-t15
+    (λ c κs. search needs)
+    (λ c κs. search needs)
+    (λ c κs. search needs)
+    (λ c κs. search needs)
+    (λ c. search needs)
+    (λ c. search needs)
+    (λ c. search needs)
     returns)

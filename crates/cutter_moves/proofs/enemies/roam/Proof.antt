@@ -8,15 +8,6 @@ use Rattle.cutter_moves.proofs.Roaming.{roam-clear, roam-line, roam-tur
 use Rattle.cutter_moves.proofs.enemies.roam.Statement.{statement}
 use Rattle.cutter_moves.proofs.enemies.roam.Tie as tie
 
-look-requires : tie.Need-look-requires
-look-requires c κs = search needs
-
-is-clear-requires : tie.Need-is-clear-requires
-is-clear-requires c κs = search needs
-
-put-requires : tie.Need-put-requires
-put-requires c κs = search needs
-
 returns : tie.Need-returns
 returns c =
     let fx : SFits w8 (c .before .before .before .before .before .before .args .e .vx) = search needs in
@@ -24,19 +15,14 @@ returns c =
     let b = c .before .before .before .before in
     let w = b .before in
     let a = w .before .args in
-    roam-clear (now (a .grid)) (a .e) (w .look .result) (w .look .ensures .0) (sym (b .is-clear .ensures) ∙ c .before .before .before .if1 .taken) (c .put .result) (simp (toZ-ofZ fx, toZ-ofZ fy) at (c .put .ensures))
-
-is-line-requires : tie.Need-is-line-requires
-is-line-requires c κs = search needs
+    roam-clear (now (a .grid)) (a .e) (w .look .result) (w .look .ensures .0) (sym (b .is-clear .ensures) ∙ c .before .before .before .if1 .taken) (c .put .result)
+    (simp (toZ-ofZ fx, toZ-ofZ fy) at (c .put .ensures))
 
 returns-2 : tie.Need-returns-2
 returns-2 c =
     let w = c .before .before .before .before in
     let a = w .before .args in
     roam-line (now (a .grid)) (a .e) (w .look .result) (w .look .ensures .0) (sym (c .before .is-line .ensures) ∙ c .if2 .taken)
-
-bounce-requires : tie.Need-bounce-requires
-bounce-requires c κs = search needs
 
 returns-3 : tie.Need-returns-3
 returns-3 c =
@@ -49,11 +35,11 @@ pub roam-spec : {M : Type 1} → statement M
 roam-spec =
     tie.close
     (tie.spec
-    look-requires
-    is-clear-requires
-    put-requires
+    (λ c κs. search needs)
+    (λ c κs. search needs)
+    (λ c κs. search needs)
     returns
-    is-line-requires
+    (λ c κs. search needs)
     returns-2
-    bounce-requires
+    (λ c κs. search needs)
     returns-3)

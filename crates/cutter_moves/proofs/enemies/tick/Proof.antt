@@ -21,12 +21,6 @@ loop-holds c =
     let l : length (c .args .enemies) ≡ MAX-ENEMIES = search (needs, mapped) in
     (omega (arith, c .pre), going-start (now (c .args .grid)) (c .args .enemies) (c .args .count) (c .pre))
 
-mul-e : tie.Need-mul-e Inv-loop μ-loop
-mul-e c = search needs
-
-array-copy-out-e : tie.Need-array-copy-out-e Inv-loop μ-loop
-array-copy-out-e c = search needs
-
 roam-requires : tie.Need-roam-requires Inv-loop μ-loop
 roam-requires c κs =
     let k = c .before .before in
@@ -39,26 +33,18 @@ returns c =
     let w = c .before in
     let k = w .before .before .before in
     let a = k .before .args in
-    going-dead (now (a .grid)) (a .enemies) (a .count) (k .loop .out) (k .loop .i) _ (k .loop .inv .1) (k .loop .inv .0) (omega arith) (w .roam .result) (w .roam .ensures) (c .if1 .taken)
-
-mul-out : tie.Need-mul-out Inv-loop μ-loop
-mul-out c = search needs
-
-array-set-from-out : tie.Need-array-set-from-out Inv-loop μ-loop
-array-set-from-out c = search needs
-
-add-i : tie.Need-add-i Inv-loop μ-loop
-add-i c = search needs
-
-loop-less : tie.Need-loop-less Inv-loop μ-loop
-loop-less c = search needs
+    going-dead (now (a .grid)) (a .enemies) (a .count) (k .loop .out) (k .loop .i) _ (k .loop .inv .1) (k .loop .inv .0) (omega arith) (w .roam .result)
+    (w .roam .ensures) (c .if1 .taken)
 
 loop-again : tie.Need-loop-again Inv-loop μ-loop
 loop-again c =
     let w = c .before .before in
     let k = w .before .before .before in
-    let a = k .before .args in
-    (omega arith, going-more (now (a .grid)) (a .enemies) (a .count) (k .loop .out) (k .loop .i) _ (k .loop .inv .1) (k .loop .inv .0) (omega arith) (w .roam .result) (w .roam .ensures) (c .before .if1 .left))
+    let a = k .before .args in (
+      omega arith,
+      going-more (now (a .grid)) (a .enemies) (a .count) (k .loop .out) (k .loop .i) _ (k .loop .inv .1) (k .loop .inv .0) (omega arith) (w .roam .result)
+          (w .roam .ensures) (c .before .if1 .left),
+    )
 
 returns-2 : tie.Need-returns-2 Inv-loop μ-loop
 returns-2 c =
@@ -73,13 +59,13 @@ tick-spec =
     Inv-loop
     μ-loop
     loop-holds
-    mul-e
-    array-copy-out-e
+    (λ c. search needs)
+    (λ c. search needs)
     roam-requires
     returns
-    mul-out
-    array-set-from-out
-    add-i
-    loop-less
+    (λ c. search needs)
+    (λ c. search needs)
+    (λ c. search needs)
+    (λ c. search needs)
     loop-again
     returns-2)

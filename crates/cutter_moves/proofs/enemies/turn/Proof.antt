@@ -6,9 +6,6 @@ use Rattle.cutter_state.proofs.Signs.{kept}
 use Rattle.cutter_moves.proofs.enemies.turn.Statement.{statement}
 use Rattle.cutter_moves.proofs.enemies.turn.Tie as tie
 
-flip-requires : tie.Need-flip-requires
-flip-requires c κs = search needs
-
 returns : tie.Need-returns
 returns c = rw (eq-eqb _ _ (c .if1 .taken)) (toZ-ofZ (c .before .fits .v))
 
@@ -18,4 +15,4 @@ returns-2 c =
     simp (ne-eqb _ _ (c .before .if1 .left)) (kept (c .flip .result) (c .flip .ok) ∙ (simp f at (c .flip .ensures)))
 
 pub turn-spec : {M : Type 1} → statement M
-turn-spec = tie.close (tie.spec flip-requires returns returns-2)
+turn-spec = tie.close (tie.spec (λ c κs. search needs) returns returns-2)

@@ -31,7 +31,9 @@ draws : {c : Cutter} {g : List ℕ} {s : Step} {b : Bool} → Plays c g s → s 
 draws p e = ap (λ (t : Step). t .trailing) (sym (p .stays)) ∙ e
 
 -- there is a direction, and where it leads
-way : (k : tie.After-diagonal-of) {c : Cutter} → Plays c (now (k .before .before .before .before .before .before .before .args .grid)) (k .before .before .before .before .before .before .before .args .s) → (noDirection c ≡ false) × (k .diagonal-of .result ≡ target c)
+way : (k : tie.After-diagonal-of) {c : Cutter}
+    → Plays c (now (k .before .before .before .before .before .before .before .args .grid)) (k .before .before .before .before .before .before .before .args .s)
+    → (noDirection c ≡ false) × (k .diagonal-of .result ≡ target c)
 way k p =
     let s = k .before .before .before .before .before .before .before .args .s in
     let fx : SFits w8 (s .dx) = search needs in
@@ -40,9 +42,6 @@ way k p =
       (simp (toZ-ofZ fx, toZ-ofZ fy) at (k .diagonal-of .ensures)) ∙ aims p,
     )
 
-standing-requires : tie.Need-standing-requires
-standing-requires c κs = search needs
-
 returns : tie.Need-returns
 returns c =
     let a = c .before .before .before .before in
@@ -50,22 +49,15 @@ returns c =
     let fy : SFits w8 (a .args .s .dy) = search needs in
     (λ m p es n. stayed p ∙ step-none m (heads p ∙ sym (simp (toZ-ofZ fx, toZ-ofZ fy) at (c .before .standing .ensures)) ∙ c .if1 .taken), a .pre .here)
 
-diagonal-of-requires : tie.Need-diagonal-of-requires
-diagonal-of-requires c κs = search needs
-
 returns-2 : tie.Need-returns-2
 returns-2 c =
     let k = c .before in
     (λ m p es n. turned p ∙ step-off m (way k p .0) (k .diagonal-of .result) (way k p .1) (c .if2 .taken), k .before .before .before .before .before .before .before .pre .here)
 
-enemy-at-requires : tie.Need-enemy-at-requires
-enemy-at-requires c κs = search needs
-
-enum-told : tie.Need-enum-told
-enum-told c = search needs
-
 -- who is there
-asked : (f : tie.After-enemy-at) (c : Cutter) → c .enemies ≡ f .before .before .before .before .before .before .before .before .before .args .enemies → c .count ≡ f .before .before .before .before .before .before .before .before .before .args .count → f .enemy-at .result ≡ creatureAt (take (c .count) (c .enemies)) (f .before .before .diagonal-of .result)
+asked : (f : tie.After-enemy-at) (c : Cutter) → c .enemies ≡ f .before .before .before .before .before .before .before .before .before .args .enemies
+    → c .count ≡ f .before .before .before .before .before .before .before .before .before .args .count
+    → f .enemy-at .result ≡ creatureAt (take (c .count) (c .enemies)) (f .before .before .diagonal-of .result)
 asked f c es n = f .enemy-at .ensures ∙ ap₂ (λ (k : ℕ) (l : List Mover). creatureAt (take k l) (f .before .before .diagonal-of .result)) (sym n) (sym es)
 
 returns-3 : tie.Need-returns-3
@@ -77,40 +69,39 @@ returns-3 c =
       k .before .before .before .before .before .before .before .pre .here,
     )
 
-enum-told-2 : tie.Need-enum-told-2
-enum-told-2 c = search needs
-
-step-trailing-requires : tie.Need-step-trailing-requires
-step-trailing-requires c κs = search needs
-
 returns-4 : tie.Need-returns-4
 returns-4 c =
     let f = c .before .before .before .before in
-    let k = f .before .before in
-    (λ m p es n. c .step-trailing .ensures .0 m p ∙ step-trailing m (way k p .0) (k .diagonal-of .result) (way k p .1) (f .enemy-at .result) (f .before .if2 .left) (asked f m es n) (c .before .before .enum-told2 .given .1) (draws p (c .before .if3 .taken)), c .step-trailing .ensures .1)
-
-step-walking-requires : tie.Need-step-walking-requires
-step-walking-requires c κs = search needs
+    let k = f .before .before in (
+      λ m p es n. c .step-trailing .ensures .0 m p
+          ∙ step-trailing m (way k p .0) (k .diagonal-of .result) (way k p .1) (f .enemy-at .result) (f .before .if2 .left) (asked f m es n)
+          (c .before .before .enum-told2 .given .1) (draws p (c .before .if3 .taken)),
+      c .step-trailing .ensures .1,
+    )
 
 returns-5 : tie.Need-returns-5
 returns-5 c =
     let f = c .before .before .before .before in
-    let k = f .before .before in
-    (λ m p es n. c .step-walking .ensures .0 m p ∙ step-walking m (way k p .0) (k .diagonal-of .result) (way k p .1) (f .enemy-at .result) (f .before .if2 .left) (asked f m es n) (c .before .before .enum-told2 .given .1) (draws p (c .before .if3 .left)), c .step-walking .ensures .1)
+    let k = f .before .before in (
+      λ m p es n. c .step-walking .ensures .0 m p
+          ∙ step-walking m (way k p .0) (k .diagonal-of .result) (way k p .1) (f .enemy-at .result) (f .before .if2 .left) (asked f m es n)
+          (c .before .before .enum-told2 .given .1) (draws p (c .before .if3 .left)),
+      c .step-walking .ensures .1,
+    )
 
 pub decide-spec : {M : Type 1} → statement M
 decide-spec =
     tie.close
     (tie.spec
-    standing-requires
+    (λ c κs. search needs)
     returns
-    diagonal-of-requires
+    (λ c κs. search needs)
     returns-2
-    enemy-at-requires
-    enum-told
+    (λ c κs. search needs)
+    (λ c. search needs)
     returns-3
-    enum-told-2
-    step-trailing-requires
+    (λ c. search needs)
+    (λ c κs. search needs)
     returns-4
-    step-walking-requires
+    (λ c κs. search needs)
     returns-5)

@@ -4,18 +4,6 @@ use Rattle.cutter_moves.proofs.Step.{left-else}
 use Rattle.cutter_moves.proofs.player.direction.Statement.{statement}
 use Rattle.cutter_moves.proofs.player.direction.Tie as tie
 
-turn-to-requires : tie.Need-turn-to-requires
-turn-to-requires c κs = search needs
-
-turn-to-requires-2 : tie.Need-turn-to-requires-2
-turn-to-requires-2 c κs = search needs
-
-turn-to-requires-3 : tie.Need-turn-to-requires-3
-turn-to-requires-3 c κs = search needs
-
-turn-to-requires-4 : tie.Need-turn-to-requires-4
-turn-to-requires-4 c κs = search needs
-
 returns : tie.Need-returns
 unfolding unitX unitY
 returns c = rw (c .before .match .keys1) (c .turn-to .ensures)
@@ -38,10 +26,10 @@ pub direction-spec : {M : Type 1} → statement M
 direction-spec =
     tie.close
     (tie.spec
-    turn-to-requires
-    turn-to-requires-2
-    turn-to-requires-3
-    turn-to-requires-4
+    (λ c κs. search needs)
+    (λ c κs. search needs)
+    (λ c κs. search needs)
+    (λ c κs. search needs)
     returns
     returns-2
     returns-3

@@ -20,21 +20,6 @@ abbrev μ-loop : tie.MeasureT-loop
 loop-holds : tie.Need-loop-holds Inv-loop μ-loop
 loop-holds c = (omega arith, c .pre, refl)
 
-element-copy-out-off-line : tie.Need-element-copy-out-off-line Inv-loop μ-loop
-element-copy-out-off-line c = search needs
-
-off-line-requires : tie.Need-off-line-requires Inv-loop μ-loop
-off-line-requires c κs = search needs
-
-element-write-grid : tie.Need-element-write-grid Inv-loop μ-loop
-element-write-grid c = search needs
-
-add-i : tie.Need-add-i Inv-loop μ-loop
-add-i c = search needs
-
-loop-less : tie.Need-loop-less Inv-loop μ-loop
-loop-less c = search needs
-
 loop-again : tie.Need-loop-again Inv-loop μ-loop
 loop-again c =
     let k = c .before .before .before in
@@ -53,10 +38,10 @@ erase-line-spec =
     Inv-loop
     μ-loop
     loop-holds
-    element-copy-out-off-line
-    off-line-requires
-    element-write-grid
-    add-i
-    loop-less
+    (λ c. search needs)
+    (λ c κs. search needs)
+    (λ c. search needs)
+    (λ c. search needs)
+    (λ c. search needs)
     loop-again
     returns)

@@ -12,12 +12,6 @@ use Rattle.cutter_rules.specs.Step.{entered, lineErased, atBorder, respawned}
 use Rattle.cutter_moves.proofs.player.respawn.Statement.{statement}
 use Rattle.cutter_moves.proofs.player.respawn.Tie as tie
 
-at-start-requires : tie.Need-at-start-requires
-at-start-requires c κs = search needs
-
-erase-line-requires : tie.Need-erase-line-requires
-erase-line-requires c κs = search needs
-
 mul-at : tie.Need-mul-at
 unfolding atStart
 mul-at c = rw (c .before .before .at-start .ensures) (search needs)
@@ -48,4 +42,4 @@ returns c =
 
 pub respawn-spec : {M : Type 1} → statement M
 respawn-spec =
-    tie.close (tie.spec at-start-requires erase-line-requires mul-at add-at move-to-border-requires returns)
+    tie.close (tie.spec (λ c κs. search needs) (λ c κs. search needs) mul-at add-at move-to-border-requires returns)

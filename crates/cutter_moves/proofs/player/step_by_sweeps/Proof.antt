@@ -19,9 +19,6 @@ step-on-requires c κs =
     let h = on-grid (s .args .c) (s .pre) in
     record { cells = s .pre .cells; across = h .across; down = h .down; few = s .pre .few }
 
-cast-close-by-sweeps : tie.Need-cast-close-by-sweeps
-cast-close-by-sweeps c = search needs
-
 close-by-sweeps-requires : tie.Need-close-by-sweeps-requires
 close-by-sweeps-requires c κs =
     let d = c .before .before in
@@ -48,9 +45,6 @@ returns c =
     (cutOf (k .close-by-sweeps .last .0) (k .close-by-sweeps .result)) (k .close-by-sweeps .ensures) (w .move-to-border .result .at) (ap (λ r. r .at) (w .move-to-border .ensures))
     ∙ sym (swept-step (s .args .c) (s .pre .cells))
 
-step-player-requires : tie.Need-step-player-requires
-step-player-requires c κs = search needs
-
 returns-2 : tie.Need-returns-2
 returns-2 c =
     let s = c .before .before .before .before .before .before .before in
@@ -61,9 +55,9 @@ step-by-sweeps-spec =
     tie.close
     (tie.spec
     step-on-requires
-    cast-close-by-sweeps
+    (λ c. search needs)
     close-by-sweeps-requires
     move-to-border-requires
     returns
-    step-player-requires
+    (λ c κs. search needs)
     returns-2)

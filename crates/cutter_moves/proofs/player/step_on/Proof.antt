@@ -4,18 +4,6 @@ use Rattle.cutter_moves.proofs.Applied.{first-chosen, second-chosen}
 use Rattle.cutter_moves.proofs.player.step_on.Statement.{statement}
 use Rattle.cutter_moves.proofs.player.step_on.Tie as tie
 
-mul-own : tie.Need-mul-own
-mul-own c = search needs
-
-add-own : tie.Need-add-own
-add-own c = search needs
-
-element-copy-out-code : tie.Need-element-copy-out-code
-element-copy-out-code c = search needs
-
-decide-requires : tie.Need-decide-requires
-decide-requires c κs = search needs
-
 returns : tie.Need-returns
 returns c =
     let d = c .before in
@@ -25,9 +13,6 @@ returns c =
       inside = d .decide .ensures .1;
       ground = first-chosen _ _ _ (c .if1 .taken);
     }
-
-element-write-grid : tie.Need-element-write-grid
-element-write-grid c = search needs
 
 returns-2 : tie.Need-returns-2
 returns-2 c =
@@ -43,10 +28,10 @@ pub step-on-spec : {M : Type 1} → statement M
 step-on-spec =
     tie.close
     (tie.spec
-    mul-own
-    add-own
-    element-copy-out-code
-    decide-requires
+    (λ c. search needs)
+    (λ c. search needs)
+    (λ c. search needs)
+    (λ c κs. search needs)
     returns
-    element-write-grid
+    (λ c. search needs)
     returns-2)

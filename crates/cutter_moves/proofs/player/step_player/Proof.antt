@@ -19,9 +19,6 @@ step-on-requires c κs =
     let h = on-grid (s .args .c) (s .pre) in
     record { cells = s .pre .cells; across = h .across; down = h .down; few = s .pre .few }
 
-cast-close-cut : tie.Need-cast-close-cut
-cast-close-cut c = search needs
-
 close-cut-requires : tie.Need-close-cut-requires
 close-cut-requires c κs =
     let d = c .before .before in
@@ -61,7 +58,7 @@ step-player-spec =
     tie.close
     (tie.spec
     step-on-requires
-    cast-close-cut
+    (λ c. search needs)
     close-cut-requires
     move-to-border-requires
     returns

@@ -6,9 +6,6 @@ use Rattle.cutter_moves.proofs.Applied.{died, shut, drew, code}
 use Rattle.cutter_moves.proofs.player.step_trailing.Statement.{statement}
 use Rattle.cutter_moves.proofs.player.step_trailing.Tie as tie
 
-cell-requires : tie.Need-cell-requires
-cell-requires c κs = search needs
-
 returns : tie.Need-returns
 unfolding trailingStep
 returns c =
@@ -19,20 +16,27 @@ returns-2 : tie.Need-returns-2
 unfolding trailingStep
 returns-2 c =
     let k = c .before .before in
-    let a = k .before in
-    (λ m p. shut p (a .args .at) ∙ simp (ne-eqb _ _ (λ q. c .before .if1 .left (k .cell .ensures ∙ sym (code p (a .args .at)) ∙ q)), eq-eqb _ _ (code p (a .args .at) ∙ sym (k .cell .ensures) ∙ c .if2 .taken)), a .pre .there)
-
-lay-requires : tie.Need-lay-requires
-lay-requires c κs = search needs
+    let a = k .before in (
+      λ m p. shut p (a .args .at) ∙ simp (
+        ne-eqb _ _ (λ q. c .before .if1 .left (k .cell .ensures ∙ sym (code p (a .args .at)) ∙ q)),
+        eq-eqb _ _ (code p (a .args .at) ∙ sym (k .cell .ensures) ∙ c .if2 .taken),
+      ),
+      a .pre .there,
+    )
 
 returns-3 : tie.Need-returns-3
 unfolding trailingStep
 returns-3 c =
     let k = c .before .before .before in
     let a = k .before in
-    simp (c .lay .ensures)
-    (λ m p. drew p (a .args .at) ∙ simp (ne-eqb _ _ (λ q. c .before .before .if1 .left (k .cell .ensures ∙ sym (code p (a .args .at)) ∙ q)), ne-eqb _ _ (λ q. c .before .if2 .left (k .cell .ensures ∙ sym (code p (a .args .at)) ∙ q))), a .pre .there)
+    simp (c .lay .ensures) (
+      λ m p. drew p (a .args .at) ∙ simp (
+        ne-eqb _ _ (λ q. c .before .before .if1 .left (k .cell .ensures ∙ sym (code p (a .args .at)) ∙ q)),
+        ne-eqb _ _ (λ q. c .before .if2 .left (k .cell .ensures ∙ sym (code p (a .args .at)) ∙ q)),
+      ),
+      a .pre .there,
+    )
 
 pub step-trailing-spec : {M : Type 1} → statement M
 step-trailing-spec =
-    tie.close (tie.spec cell-requires returns returns-2 lay-requires returns-3)
+    tie.close (tie.spec (λ c κs. search needs) returns returns-2 (λ c κs. search needs) returns-3)

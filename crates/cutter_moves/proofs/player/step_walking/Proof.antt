@@ -6,28 +6,31 @@ use Rattle.cutter_moves.proofs.Applied.{went, turned, began, code, besi
 use Rattle.cutter_moves.proofs.player.step_walking.Statement.{statement}
 use Rattle.cutter_moves.proofs.player.step_walking.Tie as tie
 
-cell-requires : tie.Need-cell-requires
-cell-requires c κs = search needs
-
-on-border-requires : tie.Need-on-border-requires
-on-border-requires c κs = search needs
-
 returns : tie.Need-returns
 unfolding walkingStep
 returns c =
     let k = c .before .before .before in
-    let a = k .before in
-    (λ m p. went p (a .args .at) ∙ simp (eq-eqb _ _ (code p (a .args .at) ∙ sym (k .cell .ensures) ∙ c .before .before .if1 .taken), beside p (a .args .at) ∙ sym (c .before .on-border .ensures) ∙ c .if2 .taken), a .pre .here)
+    let a = k .before in (
+      λ m p. went p (a .args .at) ∙ simp (
+        eq-eqb _ _ (code p (a .args .at) ∙ sym (k .cell .ensures) ∙ c .before .before .if1 .taken),
+        beside p (a .args .at) ∙ sym (c .before .on-border .ensures)
+            ∙ c .if2 .taken,
+      ),
+      a .pre .here,
+    )
 
 returns-2 : tie.Need-returns-2
 unfolding walkingStep
 returns-2 c =
     let k = c .before .before .before in
-    let a = k .before in
-    (λ m p. turned p ∙ simp (eq-eqb _ _ (code p (a .args .at) ∙ sym (k .cell .ensures) ∙ c .before .before .if1 .taken), beside p (a .args .at) ∙ sym (c .before .on-border .ensures) ∙ c .if2 .left), a .pre .here)
-
-lay-requires : tie.Need-lay-requires
-lay-requires c κs = search needs
+    let a = k .before in (
+      λ m p. turned p ∙ simp (
+        eq-eqb _ _ (code p (a .args .at) ∙ sym (k .cell .ensures) ∙ c .before .before .if1 .taken),
+        beside p (a .args .at)
+            ∙ sym (c .before .on-border .ensures) ∙ c .if2 .left,
+      ),
+      a .pre .here,
+    )
 
 returns-3 : tie.Need-returns-3
 unfolding walkingStep
@@ -40,4 +43,4 @@ returns-3 c =
 pub step-walking-spec : {M : Type 1} → statement M
 step-walking-spec =
     tie.close
-    (tie.spec cell-requires on-border-requires returns returns-2 lay-requires returns-3)
+    (tie.spec (λ c κs. search needs) (λ c κs. search needs) returns returns-2 (λ c κs. search needs) returns-3)

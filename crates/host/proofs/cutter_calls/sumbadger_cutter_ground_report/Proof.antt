@@ -7,17 +7,8 @@ use Rattle.host_state.specs.Cutter.{gameOf}
 use Rattle.host.proofs.cutter_calls.sumbadger_cutter_ground_report.Statement.{statement}
 use Rattle.host.proofs.cutter_calls.sumbadger_cutter_ground_report.Tie as tie
 
-cutter-flags-requires : tie.Need-cutter-flags-requires
-cutter-flags-requires c κs = search needs
-
 returns : tie.Need-returns
 returns c = turned-away unreported _ (c .before .cutter-flags .ensures) (c .if1 .taken)
-
-cutter-game-requires : tie.Need-cutter-game-requires
-cutter-game-requires c κs = search needs
-
-ground-report-requires : tie.Need-ground-report-requires
-ground-report-requires c κs = search needs
 
 returns-2 : tie.Need-returns-2
 returns-2 c =
@@ -30,8 +21,8 @@ pub sumbadger-cutter-ground-report-spec : {M : Type 1} → statement M
 sumbadger-cutter-ground-report-spec =
     tie.close
     (tie.spec
-    cutter-flags-requires
+    (λ c κs. search needs)
     returns
-    cutter-game-requires
-    ground-report-requires
+    (λ c κs. search needs)
+    (λ c κs. search needs)
     returns-2)

@@ -5,15 +5,9 @@ use Rattle.host.specs.Cutter.{answerOut}
 use Rattle.host.proofs.cutter_calls.sumbadger_cutter_new_round.Statement.{statement}
 use Rattle.host.proofs.cutter_calls.sumbadger_cutter_new_round.Tie as tie
 
-new-round-requires : tie.Need-new-round-requires
-new-round-requires c κs = search needs
-
-answer-out-requires : tie.Need-answer-out-requires
-answer-out-requires c κs = search needs
-
 returns : tie.Need-returns
 returns c = c .answer-out .ensures ∙ ap answerOut (c .before .new-round .ensures)
 
 pub sumbadger-cutter-new-round-spec : {M : Type 1} → statement M
 sumbadger-cutter-new-round-spec =
-    tie.close (tie.spec new-round-requires answer-out-requires returns)
+    tie.close (tie.spec (λ c κs. search needs) (λ c κs. search needs) returns)

@@ -10,27 +10,12 @@ use Rattle.host.specs.Cutter.{turnOut, refusedPass, hostedPass}
 use Rattle.host.proofs.cutter_calls.sumbadger_cutter_pass.Statement.{statement}
 use Rattle.host.proofs.cutter_calls.sumbadger_cutter_pass.Tie as tie
 
-cutter-flags-requires : tie.Need-cutter-flags-requires
-cutter-flags-requires c κs = search needs
-
-number-requires : tie.Need-number-requires
-number-requires c κs = search needs
-
 returns : tie.Need-returns
 unfolding hostedPass
 returns c =
     let f = c .before .before in
     let a = f .before .before .before .args in
     rw (c .number .ensures) (turned-away (refusedPass (a .h) (a .marks)) _ (f .cutter-flags .ensures) (c .before .if1 .taken))
-
-cutter-game-requires : tie.Need-cutter-game-requires
-cutter-game-requires c κs = search needs
-
-pass-marks-requires : tie.Need-pass-marks-requires
-pass-marks-requires c κs = search needs
-
-turn-out-requires : tie.Need-turn-out-requires
-turn-out-requires c κs = search needs
 
 returns-2 : tie.Need-returns-2
 unfolding hostedPass
@@ -46,10 +31,10 @@ pub sumbadger-cutter-pass-spec : {M : Type 1} → statement M
 sumbadger-cutter-pass-spec =
     tie.close
     (tie.spec
-    cutter-flags-requires
-    number-requires
+    (λ c κs. search needs)
+    (λ c κs. search needs)
     returns
-    cutter-game-requires
-    pass-marks-requires
-    turn-out-requires
+    (λ c κs. search needs)
+    (λ c κs. search needs)
+    (λ c κs. search needs)
     returns-2)

@@ -9,22 +9,10 @@ use Rattle.host_state.specs.Cutter.{gameOf}
 use Rattle.host.proofs.cutter_calls.sumbadger_cutter_render.Statement.{statement}
 use Rattle.host.proofs.cutter_calls.sumbadger_cutter_render.Tie as tie
 
-cutter-flags-requires : tie.Need-cutter-flags-requires
-cutter-flags-requires c κs = search needs
-
 returns : tie.Need-returns
 returns c =
     let l = c .before .before .before .args .frame .now in
     turned-away (λ (n : ℕ). (n, l)) _ (c .before .cutter-flags .ensures) (c .if1 .taken)
-
-cutter-game-requires : tie.Need-cutter-game-requires
-cutter-game-requires c κs = search needs
-
-render-requires : tie.Need-render-requires
-render-requires c κs = search needs
-
-same-length : tie.Need-same-length
-same-length c = search needs
 
 returns-2 : tie.Need-returns-2
 returns-2 c =
@@ -39,9 +27,9 @@ pub sumbadger-cutter-render-spec : {M : Type 1} → statement M
 sumbadger-cutter-render-spec =
     tie.close
     (tie.spec
-    cutter-flags-requires
+    (λ c κs. search needs)
     returns
-    cutter-game-requires
-    render-requires
-    same-length
+    (λ c κs. search needs)
+    (λ c κs. search needs)
+    (λ c. search needs)
     returns-2)

@@ -3,14 +3,8 @@ use borrow.Author.Needs.{needs}
 use Rattle.host.proofs.cutter_calls.turn_out.Statement.{statement}
 use Rattle.host.proofs.cutter_calls.turn_out.Tie as tie
 
-number-requires : tie.Need-number-requires
-number-requires c κs = search needs
-
-cutter-host-requires : tie.Need-cutter-host-requires
-cutter-host-requires c κs = search needs
-
 returns : tie.Need-returns
 returns c = rw (c .before .number .ensures, c .cutter-host .ensures)
 
 pub turn-out-spec : {M : Type 1} → statement M
-turn-out-spec = tie.close (tie.spec number-requires cutter-host-requires returns)
+turn-out-spec = tie.close (tie.spec (λ c κs. search needs) (λ c κs. search needs) returns)

@@ -10,27 +10,12 @@ use Rattle.host.specs.Mine.{turnOut, refusedPass, hostedPass}
 use Rattle.host.proofs.mine_calls.sumbadger_mine_pass.Statement.{statement}
 use Rattle.host.proofs.mine_calls.sumbadger_mine_pass.Tie as tie
 
-mine-flags-requires : tie.Need-mine-flags-requires
-mine-flags-requires c κs = search needs
-
-number-requires : tie.Need-number-requires
-number-requires c κs = search needs
-
 returns : tie.Need-returns
 unfolding hostedPass
 returns c =
     let f = c .before .before in
     let a = f .before .before .args in
     rw (c .number .ensures) (turned-away (refusedPass (a .h) (a .marks)) _ (f .mine-flags .ensures) (c .before .if1 .taken))
-
-mine-game-requires : tie.Need-mine-game-requires
-mine-game-requires c κs = search needs
-
-pass-marks-requires : tie.Need-pass-marks-requires
-pass-marks-requires c κs = search needs
-
-turn-out-requires : tie.Need-turn-out-requires
-turn-out-requires c κs = search needs
 
 returns-2 : tie.Need-returns-2
 unfolding hostedPass
@@ -46,10 +31,10 @@ pub sumbadger-mine-pass-spec : {M : Type 1} → statement M
 sumbadger-mine-pass-spec =
     tie.close
     (tie.spec
-    mine-flags-requires
-    number-requires
+    (λ c κs. search needs)
+    (λ c κs. search needs)
     returns
-    mine-game-requires
-    pass-marks-requires
-    turn-out-requires
+    (λ c κs. search needs)
+    (λ c κs. search needs)
+    (λ c κs. search needs)
     returns-2)

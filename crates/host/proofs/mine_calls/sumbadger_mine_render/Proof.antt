@@ -9,22 +9,10 @@ use Rattle.host_state.specs.Mine.{gameOf}
 use Rattle.host.proofs.mine_calls.sumbadger_mine_render.Statement.{statement}
 use Rattle.host.proofs.mine_calls.sumbadger_mine_render.Tie as tie
 
-mine-flags-requires : tie.Need-mine-flags-requires
-mine-flags-requires c κs = search needs
-
 returns : tie.Need-returns
 returns c =
     let l = c .before .before .before .args .frame .now in
     turned-away (λ (n : ℕ). (n, l)) _ (c .before .mine-flags .ensures) (c .if1 .taken)
-
-mine-game-requires : tie.Need-mine-game-requires
-mine-game-requires c κs = search needs
-
-render-requires : tie.Need-render-requires
-render-requires c κs = search needs
-
-same-length : tie.Need-same-length
-same-length c = search needs
 
 returns-2 : tie.Need-returns-2
 returns-2 c =
@@ -39,9 +27,9 @@ pub sumbadger-mine-render-spec : {M : Type 1} → statement M
 sumbadger-mine-render-spec =
     tie.close
     (tie.spec
-    mine-flags-requires
+    (λ c κs. search needs)
     returns
-    mine-game-requires
-    render-requires
-    same-length
+    (λ c κs. search needs)
+    (λ c κs. search needs)
+    (λ c. search needs)
     returns-2)

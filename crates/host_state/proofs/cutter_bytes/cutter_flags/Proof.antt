@@ -5,15 +5,6 @@ use Rattle.host_state.specs.Cutter.{flagsOf}
 use Rattle.host_state.proofs.cutter_bytes.cutter_flags.Statement.{statement}
 use Rattle.host_state.proofs.cutter_bytes.cutter_flags.Tie as tie
 
-is-flag-requires : tie.Need-is-flag-requires
-is-flag-requires c κs = search needs
-
-is-flag-requires-2 : tie.Need-is-flag-requires-2
-is-flag-requires-2 c κs = search needs
-
-is-flag-requires-3 : tie.Need-is-flag-requires-3
-is-flag-requires-3 c κs = search needs
-
 returns : tie.Need-returns
 unfolding flagsOf
 returns c =
@@ -28,4 +19,4 @@ returns-2 c =
 
 pub cutter-flags-spec : {M : Type 1} → statement M
 cutter-flags-spec =
-    tie.close (tie.spec is-flag-requires is-flag-requires-2 is-flag-requires-3 returns returns-2)
+    tie.close (tie.spec (λ c κs. search needs) (λ c κs. search needs) (λ c κs. search needs) returns returns-2)

@@ -7,15 +7,6 @@ use Rattle.host_state.specs.Cutter.{gameOf}
 use Rattle.host_state.proofs.cutter_bytes.cutter_game.Statement.{statement}
 use Rattle.host_state.proofs.cutter_bytes.cutter_game.Tie as tie
 
-flag-of-requires : tie.Need-flag-of-requires
-flag-of-requires c κs = search needs
-
-flag-of-requires-2 : tie.Need-flag-of-requires-2
-flag-of-requires-2 c κs = search needs
-
-flag-of-requires-3 : tie.Need-flag-of-requires-3
-flag-of-requires-3 c κs = search needs
-
 returns : tie.Need-returns
 unfolding gameOf
 returns c =
@@ -27,4 +18,4 @@ returns c =
 
 pub cutter-game-spec : {M : Type 1} → statement M
 cutter-game-spec =
-    tie.close (tie.spec flag-of-requires flag-of-requires-2 flag-of-requires-3 returns)
+    tie.close (tie.spec (λ c κs. search needs) (λ c κs. search needs) (λ c κs. search needs) returns)

@@ -7,15 +7,6 @@ use Rattle.host_state.specs.Cutter.{hostOf}
 use Rattle.host_state.proofs.cutter_bytes.cutter_host.Statement.{statement}
 use Rattle.host_state.proofs.cutter_bytes.cutter_host.Tie as tie
 
-byte-of-requires : tie.Need-byte-of-requires
-byte-of-requires c κs = search needs
-
-byte-of-requires-2 : tie.Need-byte-of-requires-2
-byte-of-requires-2 c κs = search needs
-
-byte-of-requires-3 : tie.Need-byte-of-requires-3
-byte-of-requires-3 c κs = search needs
-
 returns : tie.Need-returns
 unfolding hostOf
 returns c =
@@ -27,4 +18,4 @@ returns c =
 
 pub cutter-host-spec : {M : Type 1} → statement M
 cutter-host-spec =
-    tie.close (tie.spec byte-of-requires byte-of-requires-2 byte-of-requires-3 returns)
+    tie.close (tie.spec (λ c κs. search needs) (λ c κs. search needs) (λ c κs. search needs) returns)

@@ -24,9 +24,6 @@ loop-holds c = (omega arith, refl, refl)
 element-copy-out-byte-of : tie.Need-element-copy-out-byte-of Inv-loop μ-loop
 element-copy-out-byte-of c = omega (arith, c .before .before .pre)
 
-byte-of-requires : tie.Need-byte-of-requires Inv-loop μ-loop
-byte-of-requires c κs = search needs
-
 array-write-out : tie.Need-array-write-out Inv-loop μ-loop
 array-write-out c = omega arith
 
@@ -41,8 +38,12 @@ loop-again c =
     let k = c .before .before .before in
     let l = k .before .args .marks .now in
     let i = k .loop .i in
-    let b : i < length (map byteOf l) = omega (arith, length-map l byteOf, k .before .pre) in
-    (omega arith, simp length-set (k .loop .inv .1), fill-more (k .loop .out) (map byteOf l) i (c .byte-of .result) _ (omega (arith, k .loop .inv .1)) b (k .loop .inv .2) (c .byte-of .ensures ∙ sym (List·getD-map byteOf l i false)))
+    let b : i < length (map byteOf l) = omega (arith, length-map l byteOf, k .before .pre) in (
+      omega arith,
+      simp length-set (k .loop .inv .1),
+      fill-more (k .loop .out) (map byteOf l) i (c .byte-of .result) _ (omega (arith, k .loop .inv .1)) b (k .loop .inv .2)
+          (c .byte-of .ensures ∙ sym (List·getD-map byteOf l i false)),
+    )
 
 returns : tie.Need-returns Inv-loop μ-loop
 returns c =
@@ -59,7 +60,7 @@ bytes-of-spec =
     μ-loop
     loop-holds
     element-copy-out-byte-of
-    byte-of-requires
+    (λ c κs. search needs)
     array-write-out
     add-i
     loop-less

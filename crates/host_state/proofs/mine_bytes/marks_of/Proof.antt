@@ -23,9 +23,6 @@ loop-holds c = (omega arith, refl, refl)
 element-copy-out-flag-of : tie.Need-element-copy-out-flag-of Inv-loop μ-loop
 element-copy-out-flag-of c = omega (arith, c .before .before .pre)
 
-flag-of-requires : tie.Need-flag-of-requires Inv-loop μ-loop
-flag-of-requires c κs = search needs
-
 array-write-out : tie.Need-array-write-out Inv-loop μ-loop
 array-write-out c = omega arith
 
@@ -40,8 +37,12 @@ loop-again c =
     let k = c .before .before .before in
     let l = k .before .args .bytes .now in
     let i = k .loop .i in
-    let b : i < length (map flagOf l) = omega (arith, length-map l flagOf, k .before .pre) in
-    (omega arith, simp length-set (k .loop .inv .1), fill-more (k .loop .out) (map flagOf l) i (c .flag-of .result) _ (omega (arith, k .loop .inv .1)) b (k .loop .inv .2) (c .flag-of .ensures ∙ sym (List·getD-map flagOf l i 0)))
+    let b : i < length (map flagOf l) = omega (arith, length-map l flagOf, k .before .pre) in (
+      omega arith,
+      simp length-set (k .loop .inv .1),
+      fill-more (k .loop .out) (map flagOf l) i (c .flag-of .result) _ (omega (arith, k .loop .inv .1)) b (k .loop .inv .2)
+          (c .flag-of .ensures ∙ sym (List·getD-map flagOf l i 0)),
+    )
 
 returns : tie.Need-returns Inv-loop μ-loop
 returns c =
@@ -58,7 +59,7 @@ marks-of-spec =
     μ-loop
     loop-holds
     element-copy-out-flag-of
-    flag-of-requires
+    (λ c κs. search needs)
     array-write-out
     add-i
     loop-less

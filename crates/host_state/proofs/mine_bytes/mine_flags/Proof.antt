@@ -6,18 +6,9 @@ use Rattle.host_state.specs.Mine.{flagsOf}
 use Rattle.host_state.proofs.mine_bytes.mine_flags.Statement.{statement}
 use Rattle.host_state.proofs.mine_bytes.mine_flags.Tie as tie
 
-marks-ok-requires : tie.Need-marks-ok-requires
-marks-ok-requires c κs = search needs
-
 returns : tie.Need-returns
 unfolding flagsOf
 returns c = simp (sym (c .before .marks-ok .ensures) ∙ not-true _ (c .if1 .taken))
-
-is-flag-requires : tie.Need-is-flag-requires
-is-flag-requires c κs = search needs
-
-is-flag-requires-2 : tie.Need-is-flag-requires-2
-is-flag-requires-2 c κs = search needs
 
 returns-2 : tie.Need-returns-2
 unfolding flagsOf
@@ -36,4 +27,4 @@ returns-3 c =
 pub mine-flags-spec : {M : Type 1} → statement M
 mine-flags-spec =
     tie.close
-    (tie.spec marks-ok-requires returns is-flag-requires is-flag-requires-2 returns-2 returns-3)
+    (tie.spec (λ c κs. search needs) returns (λ c κs. search needs) (λ c κs. search needs) returns-2 returns-3)

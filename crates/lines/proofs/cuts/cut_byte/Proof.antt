@@ -6,48 +6,6 @@ use borrow.Author.Needs.{needs}
 use Rattle.lines.proofs.cuts.cut_byte.Statement.{statement}
 use Rattle.lines.proofs.cuts.cut_byte.Tie as tie
 
-direction-requires : tie.Need-direction-requires
-direction-requires c κs = search needs
-
-said-of-requires : tie.Need-said-of-requires
-said-of-requires c κs = search needs
-
-direction-requires-2 : tie.Need-direction-requires-2
-direction-requires-2 c κs = search needs
-
-said-of-requires-2 : tie.Need-said-of-requires-2
-said-of-requires-2 c κs = search needs
-
-direction-requires-3 : tie.Need-direction-requires-3
-direction-requires-3 c κs = search needs
-
-said-of-requires-3 : tie.Need-said-of-requires-3
-said-of-requires-3 c κs = search needs
-
-direction-requires-4 : tie.Need-direction-requires-4
-direction-requires-4 c κs = search needs
-
-said-of-requires-4 : tie.Need-said-of-requires-4
-said-of-requires-4 c κs = search needs
-
-step-player-requires : tie.Need-step-player-requires
-step-player-requires c κs = search needs
-
-said-of-requires-5 : tie.Need-said-of-requires-5
-said-of-requires-5 c κs = search needs
-
-step-enemies-requires : tie.Need-step-enemies-requires
-step-enemies-requires c κs = search needs
-
-said-of-requires-6 : tie.Need-said-of-requires-6
-said-of-requires-6 c κs = search needs
-
-respawn-requires : tie.Need-respawn-requires
-respawn-requires c κs = search needs
-
-said-of-requires-7 : tie.Need-said-of-requires-7
-said-of-requires-7 c κs = search needs
-
 returns : tie.Need-returns
 unfolding cutByte
 returns c = rw (c .match .keys1)
@@ -84,26 +42,35 @@ returns-9 : tie.Need-returns-9
 unfolding cutByte
 returns-9 c =
     let n = c .match .rest in
-    simp (ne-eqb _ _ (n .0 .0 .0 .0 .0 .0 .0 .1), ne-eqb _ _ (n .0 .0 .0 .0 .0 .0 .1), ne-eqb _ _ (n .0 .0 .0 .0 .0 .1), ne-eqb _ _ (n .0 .0 .0 .0 .1), ne-eqb _ _ (n .0 .0 .0 .1), ne-eqb _ _ (n .0 .0 .1), ne-eqb _ _ (n .0 .1), ne-eqb _ _ (n .1))
+    simp (
+      ne-eqb _ _ (n .0 .0 .0 .0 .0 .0 .0 .1),
+      ne-eqb _ _ (n .0 .0 .0 .0 .0 .0 .1),
+      ne-eqb _ _ (n .0 .0 .0 .0 .0 .1),
+      ne-eqb _ _ (n .0 .0 .0 .0 .1),
+      ne-eqb _ _ (n .0 .0 .0 .1),
+      ne-eqb _ _ (n .0 .0 .1),
+      ne-eqb _ _ (n .0 .1),
+      ne-eqb _ _ (n .1),
+    )
 
 pub cut-byte-spec : {M : Type 1} → statement M
 cut-byte-spec =
     tie.close
     (tie.spec
-    direction-requires
-    said-of-requires
-    direction-requires-2
-    said-of-requires-2
-    direction-requires-3
-    said-of-requires-3
-    direction-requires-4
-    said-of-requires-4
-    step-player-requires
-    said-of-requires-5
-    step-enemies-requires
-    said-of-requires-6
-    respawn-requires
-    said-of-requires-7
+    (λ c κs. search needs)
+    (λ c κs. search needs)
+    (λ c κs. search needs)
+    (λ c κs. search needs)
+    (λ c κs. search needs)
+    (λ c κs. search needs)
+    (λ c κs. search needs)
+    (λ c κs. search needs)
+    (λ c κs. search needs)
+    (λ c κs. search needs)
+    (λ c κs. search needs)
+    (λ c κs. search needs)
+    (λ c κs. search needs)
+    (λ c κs. search needs)
     returns
     returns-2
     returns-3

@@ -6,19 +6,13 @@ use borrow.Author.Needs.{needs}
 use Rattle.lines.proofs.cuts.cut_next.Statement.{statement}
 use Rattle.lines.proofs.cuts.cut_next.Tie as tie
 
-cut-start-requires : tie.Need-cut-start-requires
-cut-start-requires c κs = search needs
-
 returns : tie.Need-returns
 unfolding cutNext
 returns c = rw (c .before .if1 .taken) (ap (said Nothing) (c .cut-start .ensures))
-
-cut-byte-requires : tie.Need-cut-byte-requires
-cut-byte-requires c κs = search needs
 
 returns-2 : tie.Need-returns-2
 unfolding cutNext
 returns-2 c = rw (c .before .if1 .left) (c .cut-byte .ensures)
 
 pub cut-next-spec : {M : Type 1} → statement M
-cut-next-spec = tie.close (tie.spec cut-start-requires returns cut-byte-requires returns-2)
+cut-next-spec = tie.close (tie.spec (λ c κs. search needs) returns (λ c κs. search needs) returns-2)

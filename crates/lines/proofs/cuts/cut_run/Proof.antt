@@ -14,7 +14,9 @@ use Rattle.lines.proofs.cuts.cut_run.Statement.{statement}
 use Rattle.lines.proofs.cuts.cut_run.Tie as tie
 
 abbrev Inv-loop : tie.InvT-loop
-Inv-loop parted bytes out₀ game₀ end₀ i₀ out game end i = (i ≤ length bytes) × (end ≤ i * LINE) × (length out ≡ length out₀) × (cutAfter parted game (drop i bytes) ≡ cutAfter parted game₀ bytes) × ((n : ℕ) (l : List ℕ) → Puts (cutLines parted game (drop i bytes)) end out n l → Puts (cutLines parted game₀ bytes) 0 out₀ n l)
+Inv-loop parted bytes out₀ game₀ end₀ i₀ out game end i = (i ≤ length bytes) × (end ≤ i * LINE) × (length out ≡ length out₀) ×
+    (cutAfter parted game (drop i bytes) ≡ cutAfter parted game₀ bytes) ×
+    ((n : ℕ) (l : List ℕ) → Puts (cutLines parted game (drop i bytes)) end out n l → Puts (cutLines parted game₀ bytes) 0 out₀ n l)
 
 abbrev μ-loop : tie.MeasureT-loop
 μ-loop parted bytes out₀ game₀ end₀ i₀ out game end i = length bytes - i
@@ -24,12 +26,6 @@ loop-holds c = (omega arith, omega arith, refl, refl, λ n l p. p)
 
 shared-slice-read-cut-next : tie.Need-shared-slice-read-cut-next Inv-loop μ-loop
 shared-slice-read-cut-next c = omega arith
-
-cut-next-requires : tie.Need-cut-next-requires Inv-loop μ-loop
-cut-next-requires c κs = search needs
-
-cut-numbers-requires : tie.Need-cut-numbers-requires Inv-loop μ-loop
-cut-numbers-requires c κs = search needs
 
 put-line-requires : tie.Need-put-line-requires Inv-loop μ-loop
 put-line-requires c κs = omega arith
@@ -65,7 +61,10 @@ returns c =
     let s = c .before .loop in
     let bytes = a .bytes .now in
     let all : length bytes ≤ s .i = omega arith in
-    record { played = after-end (cutStep (a .parted)) bytes (s .i) (s .game) all (s .inv .3); told = s .inv .4 (s .end) (s .out) (lines-end (cutStep (a .parted)) (cutLine (a .parted)) bytes (s .i) (s .game) (s .end) (s .out) all) }
+    record {
+      played = after-end (cutStep (a .parted)) bytes (s .i) (s .game) all (s .inv .3);
+      told = s .inv .4 (s .end) (s .out) (lines-end (cutStep (a .parted)) (cutLine (a .parted)) bytes (s .i) (s .game) (s .end) (s .out) all);
+    }
 
 pub cut-run-spec : {M : Type 1} → statement M
 cut-run-spec =
@@ -75,8 +74,8 @@ cut-run-spec =
     μ-loop
     loop-holds
     shared-slice-read-cut-next
-    cut-next-requires
-    cut-numbers-requires
+    (λ c κs. search needs)
+    (λ c κs. search needs)
     put-line-requires
     add-i
     loop-less

@@ -6,15 +6,9 @@ use borrow.Author.Needs.{needs}
 use Rattle.lines.proofs.cuts.cut_start.Statement.{statement}
 use Rattle.lines.proofs.cuts.cut_start.Tie as tie
 
-slice-aggregate-new-round : tie.Need-slice-aggregate-new-round
-slice-aggregate-new-round c = search needs
-
-new-round-requires : tie.Need-new-round-requires
-new-round-requires c κs = search needs
-
 returns : tie.Need-returns
 unfolding cutStart
 returns c = ap (λ (a : CutterAnswer). a .game) (c .before .new-round .ensures)
 
 pub cut-start-spec : {M : Type 1} → statement M
-cut-start-spec = tie.close (tie.spec slice-aggregate-new-round new-round-requires returns)
+cut-start-spec = tie.close (tie.spec (λ c. search needs) (λ c κs. search needs) returns)

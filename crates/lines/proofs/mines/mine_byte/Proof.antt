@@ -7,45 +7,6 @@ use borrow.Author.Needs.{needs}
 use Rattle.lines.proofs.mines.mine_byte.Statement.{statement}
 use Rattle.lines.proofs.mines.mine_byte.Tie as tie
 
-load-requires : tie.Need-load-requires
-load-requires c κs = search needs
-
-step-player-requires : tie.Need-step-player-requires
-step-player-requires c κs = search needs
-
-said-of-requires : tie.Need-said-of-requires
-said-of-requires c κs = search needs
-
-step-player-requires-2 : tie.Need-step-player-requires-2
-step-player-requires-2 c κs = search needs
-
-said-of-requires-2 : tie.Need-said-of-requires-2
-said-of-requires-2 c κs = search needs
-
-step-player-requires-3 : tie.Need-step-player-requires-3
-step-player-requires-3 c κs = search needs
-
-said-of-requires-3 : tie.Need-said-of-requires-3
-said-of-requires-3 c κs = search needs
-
-step-player-requires-4 : tie.Need-step-player-requires-4
-step-player-requires-4 c κs = search needs
-
-said-of-requires-4 : tie.Need-said-of-requires-4
-said-of-requires-4 c κs = search needs
-
-gravity-requires : tie.Need-gravity-requires
-gravity-requires c κs = search needs
-
-said-of-requires-5 : tie.Need-said-of-requires-5
-said-of-requires-5 c κs = search needs
-
-move-enemies-requires : tie.Need-move-enemies-requires
-move-enemies-requires c κs = search needs
-
-said-of-requires-6 : tie.Need-said-of-requires-6
-said-of-requires-6 c κs = search needs
-
 returns : tie.Need-returns
 unfolding mineByte
 returns c = rw (c .match .keys1)
@@ -82,25 +43,34 @@ returns-9 : tie.Need-returns-9
 unfolding mineByte
 returns-9 c =
     let n = c .match .rest in
-    simp (ne-eqb _ _ (n .0 .0 .0 .0 .0 .0 .0 .1), ne-eqb _ _ (n .0 .0 .0 .0 .0 .0 .1), ne-eqb _ _ (n .0 .0 .0 .0 .0 .1), ne-eqb _ _ (n .0 .0 .0 .0 .1), ne-eqb _ _ (n .0 .0 .0 .1), ne-eqb _ _ (n .0 .0 .1), ne-eqb _ _ (n .0 .1), ne-eqb _ _ (n .1))
+    simp (
+      ne-eqb _ _ (n .0 .0 .0 .0 .0 .0 .0 .1),
+      ne-eqb _ _ (n .0 .0 .0 .0 .0 .0 .1),
+      ne-eqb _ _ (n .0 .0 .0 .0 .0 .1),
+      ne-eqb _ _ (n .0 .0 .0 .0 .1),
+      ne-eqb _ _ (n .0 .0 .0 .1),
+      ne-eqb _ _ (n .0 .0 .1),
+      ne-eqb _ _ (n .0 .1),
+      ne-eqb _ _ (n .1),
+    )
 
 pub mine-byte-spec : {M : Type 1} → statement M
 mine-byte-spec =
     tie.close
     (tie.spec
-    load-requires
-    step-player-requires
-    said-of-requires
-    step-player-requires-2
-    said-of-requires-2
-    step-player-requires-3
-    said-of-requires-3
-    step-player-requires-4
-    said-of-requires-4
-    gravity-requires
-    said-of-requires-5
-    move-enemies-requires
-    said-of-requires-6
+    (λ c κs. search needs)
+    (λ c κs. search needs)
+    (λ c κs. search needs)
+    (λ c κs. search needs)
+    (λ c κs. search needs)
+    (λ c κs. search needs)
+    (λ c κs. search needs)
+    (λ c κs. search needs)
+    (λ c κs. search needs)
+    (λ c κs. search needs)
+    (λ c κs. search needs)
+    (λ c κs. search needs)
+    (λ c κs. search needs)
     returns
     returns-2
     returns-3

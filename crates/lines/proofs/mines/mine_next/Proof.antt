@@ -6,19 +6,13 @@ use borrow.Author.Needs.{needs}
 use Rattle.lines.proofs.mines.mine_next.Statement.{statement}
 use Rattle.lines.proofs.mines.mine_next.Tie as tie
 
-load-requires : tie.Need-load-requires
-load-requires c κs = search needs
-
 returns : tie.Need-returns
 unfolding mineNext
 returns c = rw (c .before .if1 .taken) (ap (said Nothing) (c .load .ensures))
-
-mine-byte-requires : tie.Need-mine-byte-requires
-mine-byte-requires c κs = search needs
 
 returns-2 : tie.Need-returns-2
 unfolding mineNext
 returns-2 c = rw (c .before .if1 .left) (c .mine-byte .ensures)
 
 pub mine-next-spec : {M : Type 1} → statement M
-mine-next-spec = tie.close (tie.spec load-requires returns mine-byte-requires returns-2)
+mine-next-spec = tie.close (tie.spec (λ c κs. search needs) returns (λ c κs. search needs) returns-2)

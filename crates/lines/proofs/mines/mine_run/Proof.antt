@@ -14,7 +14,9 @@ use Rattle.lines.proofs.mines.mine_run.Statement.{statement}
 use Rattle.lines.proofs.mines.mine_run.Tie as tie
 
 abbrev Inv-loop : tie.InvT-loop
-Inv-loop parted bytes out₀ game₀ end₀ i₀ out game end i = (i ≤ length bytes) × (end ≤ i * LINE) × (length out ≡ length out₀) × (mineAfter parted game (drop i bytes) ≡ mineAfter parted game₀ bytes) × ((n : ℕ) (l : List ℕ) → Puts (mineLines parted game (drop i bytes)) end out n l → Puts (mineLines parted game₀ bytes) 0 out₀ n l)
+Inv-loop parted bytes out₀ game₀ end₀ i₀ out game end i = (i ≤ length bytes) × (end ≤ i * LINE) × (length out ≡ length out₀) ×
+    (mineAfter parted game (drop i bytes) ≡ mineAfter parted game₀ bytes) ×
+    ((n : ℕ) (l : List ℕ) → Puts (mineLines parted game (drop i bytes)) end out n l → Puts (mineLines parted game₀ bytes) 0 out₀ n l)
 
 abbrev μ-loop : tie.MeasureT-loop
 μ-loop parted bytes out₀ game₀ end₀ i₀ out game end i = length bytes - i
@@ -24,12 +26,6 @@ loop-holds c = (omega arith, omega arith, refl, refl, λ n l p. p)
 
 shared-slice-read-mine-next : tie.Need-shared-slice-read-mine-next Inv-loop μ-loop
 shared-slice-read-mine-next c = omega arith
-
-mine-next-requires : tie.Need-mine-next-requires Inv-loop μ-loop
-mine-next-requires c κs = search needs
-
-mine-numbers-requires : tie.Need-mine-numbers-requires Inv-loop μ-loop
-mine-numbers-requires c κs = search needs
 
 put-line-requires : tie.Need-put-line-requires Inv-loop μ-loop
 put-line-requires c κs = omega arith
@@ -65,7 +61,10 @@ returns c =
     let s = c .before .loop in
     let bytes = a .bytes .now in
     let all : length bytes ≤ s .i = omega arith in
-    record { played = after-end (mineStep (a .parted)) bytes (s .i) (s .game) all (s .inv .3); told = s .inv .4 (s .end) (s .out) (lines-end (mineStep (a .parted)) (mineLine (a .parted)) bytes (s .i) (s .game) (s .end) (s .out) all) }
+    record {
+      played = after-end (mineStep (a .parted)) bytes (s .i) (s .game) all (s .inv .3);
+      told = s .inv .4 (s .end) (s .out) (lines-end (mineStep (a .parted)) (mineLine (a .parted)) bytes (s .i) (s .game) (s .end) (s .out) all);
+    }
 
 pub mine-run-spec : {M : Type 1} → statement M
 mine-run-spec =
@@ -75,8 +74,8 @@ mine-run-spec =
     μ-loop
     loop-holds
     shared-slice-read-mine-next
-    mine-next-requires
-    mine-numbers-requires
+    (λ c κs. search needs)
+    (λ c κs. search needs)
     put-line-requires
     add-i
     loop-less

@@ -8,9 +8,6 @@ use Rattle.mine.specs.Calls.{refused, answered, gravityCall}
 use Rattle.mine.proofs.calls.gravity.Statement.{statement}
 use Rattle.mine.proofs.calls.gravity.Tie as tie
 
-check-requires : tie.Need-check-requires
-check-requires c κs = search needs
-
 returns : tie.Need-returns
 unfolding gravityCall
 returns c = let m = c .before .before .args .m in turned-away (refused m) (answered (gravityOf m)) (c .before .check .ensures) (c .if1 .taken)
@@ -25,4 +22,4 @@ returns-2 c =
     let-in (refused m) (answered (gravityOf m)) (c .before .before .check .ensures) (ap answered (c .«gravity» .ensures)) (c .before .if1 .left)
 
 pub gravity-spec : {M : Type 1} → statement M
-gravity-spec = tie.close (tie.spec check-requires returns gravity-requires returns-2)
+gravity-spec = tie.close (tie.spec (λ c κs. search needs) returns gravity-requires returns-2)

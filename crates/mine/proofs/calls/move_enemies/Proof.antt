@@ -8,9 +8,6 @@ use Rattle.mine.specs.Calls.{refused, answered, tickCall}
 use Rattle.mine.proofs.calls.move_enemies.Statement.{statement}
 use Rattle.mine.proofs.calls.move_enemies.Tie as tie
 
-check-requires : tie.Need-check-requires
-check-requires c κs = search needs
-
 returns : tie.Need-returns
 unfolding tickCall
 returns c = let m = c .before .before .args .m in turned-away (refused m) (answered (enemiesMoved m)) (c .before .check .ensures) (c .if1 .taken)
@@ -25,4 +22,4 @@ returns-2 c =
     let-in (refused m) (answered (enemiesMoved m)) (c .before .before .check .ensures) (ap answered (c .«move-enemies» .ensures)) (c .before .if1 .left)
 
 pub move-enemies-spec : {M : Type 1} → statement M
-move-enemies-spec = tie.close (tie.spec check-requires returns move-enemies-requires returns-2)
+move-enemies-spec = tie.close (tie.spec (λ c κs. search needs) returns move-enemies-requires returns-2)

@@ -11,9 +11,6 @@ use Rattle.mine.proofs.calls.step_player.Statement.{statement}
 use Rattle.mine.proofs.calls.step_player.Tie as tie
 use Rattle.controls.specs.Keys.{LEFT}
 
-check-requires : tie.Need-check-requires
-check-requires c κs = search needs
-
 returns : tie.Need-returns
 unfolding moveCall
 returns c =
@@ -39,4 +36,4 @@ returns-3 c =
 
 pub step-player-spec : {M : Type 1} → statement M
 step-player-spec =
-    tie.close (tie.spec check-requires returns returns-2 step-player-requires returns-3)
+    tie.close (tie.spec (λ c κs. search needs) returns returns-2 step-player-requires returns-3)

@@ -1,4 +1,5 @@
--- `mine::who` meets its contract: a walk of its MIR, by hand, with a loop. In each turn the slice is looked into, one element is copied, and the covered `stands_at` is asked of it.
+-- `mine::who` meets its contract: a walk of its MIR, by hand, with a loop. In each turn the slice is looked into, one element is copied, and the
+-- covered `stands_at` is asked of it.
 -- The invariant: i and the first met are at most the length, and index and number tell the first of the list from i on. Assumes nothing.
 use mathlib.Core.Path.{_≡_, refl, sym, ap, subst}
 use Prim.Native.Nat.{ℕ, _+_, _-_, _*_, _≤_, _<_, _^_, zero-le}
@@ -23,9 +24,12 @@ use prog.Wp.{Heap, Out, Env, afterSeq, afterBlock, afterTurn, Calls, Loops, Wp, 
 use ghost.Atoms.{Atoms, sem}
 use contract.Monad.{Fun, fact}
 use contract.Running.{givenOf, tables, tablesOf}
-use types.Kit.{Given, Item, ‵, raw, some, later, _⊛_, runs, anyQ, atRet, prop, frees as freed, Sq, _$_, _∵_, !, qed, by, move, keep, drop as gone, use1, split, join, pick, rewrite, fsplit, fjoin, suffices, frame, await, done}
+use types.Kit.{Given, Item, ‵, raw, some, later, _⊛_, runs, anyQ, atRet, prop, frees as freed, Sq, _$_, _∵_, !, qed, by, move, keep, drop as gone}
+use types.Kit.{use1, split, join, pick, rewrite, fsplit, fjoin, suffices, frame, await, done}
 use types.Part.{agg, whole, sub, look-in}
-use types.Run.{look, look-raw, init, store, forget, stop, hop, fld, from, load, lit, of-opd, bin, and-then, no-more, assigns, assigns-last, first, skips, blocks, branches, stays, leaves-loop, land, returns-within, returns, enter, alloc1, alloc0, params1, pass1, pass0, free1, free0, exec, Below, again, loops}
+use types.Run.{look, look-raw, init, store, forget, stop, hop, fld, from, load, lit, of-opd, bin, and-then, no-more, assigns, assigns-last, first}
+use types.Run.{skips, blocks, branches, stays, leaves-loop, land, returns-within, returns, enter, alloc1, alloc0, params1, pass1, pass0, free1, free0}
+use types.Run.{exec, Below, again, loops}
 use types.Share.{arr-parts}
 use sound.WpLaws.{fmOf, WpFn-mono}
 use denote.RattleType.{owns}
@@ -113,7 +117,8 @@ part-le k i n r = omega arith
 none-left : (i : ℕ) → i ≤ 0 → i ≡ 0
 none-left i l = omega arith
 
-module _ {M : Type 1} (𝓤 : URA M) (H : Heap 𝓤) (A : Atoms 𝓤) (W : Given 𝓤 H A) (at-mem : Memory → SProp 𝓤) (run : Routine → Fun 𝓤) (κ : Lft) (q : Share) (b o : ℕ) (γ : GName) (es : List Enemy) (x y : ℕ)
+module _ {M : Type 1} (𝓤 : URA M) (H : Heap 𝓤) (A : Atoms 𝓤) (W : Given 𝓤 H A) (at-mem : Memory → SProp 𝓤) (run : Routine → Fun 𝓤) (κ : Lft) (q : Share) (b o : ℕ)
+    (γ : GName) (es : List Enemy) (x y : ℕ)
     (room : Room E.the-row (length es)) (x-fits : x < 2 ^ 64) (y-fits : y < 2 ^ 64) where
   abbrev s : RefT (List Enemy)
   s = record { ptr = (b, o); name = γ; now = es }
@@ -146,7 +151,8 @@ module _ {M : Type 1} (𝓤 : URA M) (H : Heap 𝓤) (A : Atoms 𝓤) (W : Given
 
   goes : (e : Enemy) → Is E.the-row e (LL.val E.the-type E′.the-laws e ∷ []) → ent 𝓤 (sem 𝓤 H A ftrue) (Here 𝓤 H A at-mem run .pre (to e))
   goes e is =
-      qed W (‵ ftrue ∷ []) ∵ nothing ! $ owned ! usize (Is usize) (uint-makes 𝓤 H A W w64) y _ (refl, y-fits) $ fjoin ! $ owned ! usize (Is usize) (uint-makes 𝓤 H A W w64) x _ (refl, x-fits) $ fjoin ! $
+      qed W (‵ ftrue ∷ []) ∵ nothing ! $ owned ! usize (Is usize) (uint-makes 𝓤 H A W w64) y _ (refl, y-fits) $ fjoin ! $
+      owned ! usize (Is usize) (uint-makes 𝓤 H A W w64) x _ (refl, x-fits) $ fjoin ! $
       owned ! E.the-row (Is E.the-row) (LL.makes E.the-type E′.the-plain 𝓤 H A) e _ is $ fjoin ! $ move ! (1 ∷ 0 ∷ []) $ join ! $ frame ! $ done !
 
   said : (e : Enemy) (r : Bool) → ent 𝓤 (ensured 𝓤 H A here.ended (here.clauses 𝓤 H A at-mem run) tt (e, (x, (y, tt))) tt r) (fact 𝓤 (r ≡ standsAt x y e))
@@ -155,9 +161,11 @@ module _ {M : Type 1} (𝓤 : URA M) (H : Heap 𝓤) (A : Atoms 𝓤) (W : Given
   exits : (f : Found) → Is F.the-row f (EL.val F.the-type F′.the-laws f ∷ []) → f ≡ found → ent 𝓤 (sep 𝓤 (A .lft κ q) (sem 𝓤 H A Own)) (Post (EL.val F.the-type F′.the-laws f))
   exits f is e =
       qed W (‵ (flft κ q) ∷ ‵ Own ∷ []) ∵
-      suffices ! _ (ends-at 𝓤 H A who.ended stayed (who.clauses 𝓤 H A at-mem run) W (((κ, tt), (q, tt), tt, (s, (x, (y, tt))), at), tt) (EL.val F.the-type F′.the-laws f) f (tt, (tt, (tt, tt))) (tt, (tt, (tt, tt)))) $ says ! e $
+      suffices ! _ (ends-at 𝓤 H A who.ended stayed (who.clauses 𝓤 H A at-mem run) W (((κ, tt), (q, tt), tt, (s, (x, (y, tt))), at), tt)
+      (EL.val F.the-type F′.the-laws f) f (tt, (tt, (tt, tt))) (tt, (tt, (tt, tt)))) $ says ! e $
       nothing ! $ move ! (1 ∷ 0 ∷ []) $ join ! $ frame ! $
-      nothing ! $ owned ! usize (Is usize) (uint-makes 𝓤 H A W w64) y _ (refl, y-fits) $ fjoin ! $ owned ! usize (Is usize) (uint-makes 𝓤 H A W w64) x _ (refl, x-fits) $ fjoin ! $ move ! (1 ∷ 0 ∷ []) $ fjoin ! $
+      nothing ! $ owned ! usize (Is usize) (uint-makes 𝓤 H A W w64) y _ (refl, y-fits) $ fjoin ! $ owned ! usize (Is usize) (uint-makes 𝓤 H A W w64) x _ (refl, x-fits) $
+      fjoin ! $ move ! (1 ∷ 0 ∷ []) $ fjoin ! $
       owned ! F.the-row (Is F.the-row) (EL.makes F.the-type F′.the-plain 𝓤 H A) f _ is $ move ! (1 ∷ 0 ∷ []) $ done !
 
   -- the variant: how far the scan is, the first met and how many, with the invariant's facts
@@ -206,7 +214,8 @@ module _ {M : Type 1} (𝓤 : URA M) (H : Heap 𝓤) (A : Atoms 𝓤) (W : Given
         → Sq W (‵ (flft κ q) ∷ ‵ Shr ∷ ‵ (froom tyBool m₂ 0) ∷ ‵ (fdies tyBool m₂) ∷ ‵ (froom E′.mir m₁ 0) ∷ ‵ (fdies E′.mir m₁) ∷ ‵ (froom tyPtr m₀ 0) ∷ ‵ (fdies tyPtr m₀)
         ∷ ‵ (froom word l₉ 0) ∷ ‵ (fdies word l₉) ∷ ‵ (froom tyBool l₈ 0) ∷ ‵ (fdies tyBool l₈) ∷ ‵ (froom tyBool l₇ 0) ∷ ‵ (fdies tyBool l₇)
         ∷ ‵ (froom word l₆ 0) ∷ ‵ (fdies word l₆) ∷ ‵ (froom word l₅ 0) ∷ ‵ (fdies word l₅) ∷ ‵ (froom word l₄ 0) ∷ ‵ (fdies word l₄) ∷ ‵ (froom word l₃ 0) ∷ ‵ (fdies word l₃)
-        ∷ ‵ (froom word l₂ 0) ∷ ‵ (fdies word l₂) ∷ ‵ (froom slice l₁ 0) ∷ ‵ (fdies slice l₁) ∷ ‵ (froom F′.mir l₀ 0) ∷ ‵ (fdies F′.mir l₀) ∷ ‵ Own ∷ []) (freed En (prop (Post (EL.val F.the-type F′.the-laws f))))
+        ∷ ‵ (froom word l₂ 0) ∷ ‵ (fdies word l₂) ∷ ‵ (froom slice l₁ 0) ∷ ‵ (fdies slice l₁) ∷ ‵ (froom F′.mir l₀ 0) ∷ ‵ (fdies F′.mir l₀) ∷ ‵ Own ∷ [])
+        (freed En (prop (Post (EL.val F.the-type F′.the-laws f))))
     frees f is e =
         move ! (26 ∷ 27 ∷ []) $ free1 ! $ move ! (24 ∷ 25 ∷ []) $ free1 ! $ move ! (22 ∷ 23 ∷ []) $ free1 ! $ move ! (20 ∷ 21 ∷ []) $ free1 ! $ move ! (18 ∷ 19 ∷ []) $ free1 ! $
         move ! (16 ∷ 17 ∷ []) $ free1 ! $
@@ -237,7 +246,8 @@ module _ {M : Type 1} (𝓤 : URA M) (H : Heap 𝓤) (A : Atoms 𝓤) (W : Given
         (init ! 6 refl (tt, tt)) $
         rewrite ! 6 (λ (p : ℕ). ‵ (fat fullShare tyPtr m₀ 0 (vptr b p))) (sym (place-is bytes o j)) refl $
         move ! (1 ∷ 0 ∷ []) $
-        looks-slice ! tt E.the-row (Is E.the-row) (shows 𝓤 H A E.the-row) (LL.vals E.the-type E′.the-laws) (LL.tells E.the-type E′.the-laws) (LL.copy E.the-type E′.the-copy 𝓤 H A W) es b o (λ q′.
+        looks-slice ! tt E.the-row (Is E.the-row) (shows 𝓤 H A E.the-row) (LL.vals E.the-type E′.the-laws) (LL.tells E.the-type E′.the-laws)
+        (LL.copy E.the-type E′.the-copy 𝓤 H A W) es b o (λ q′.
         elem-out ! E.the-row (Is E.the-row) (shows 𝓤 H A E.the-row) (LL.vals E.the-type E′.the-laws) (LL.tells E.the-type E′.the-laws) q′ es j none b o less (λ g.
         -- [the element's cell; what it owns; the others; what shuts; the fractured borrow; _12; …; _0; …; what the slice owns]
         assigns ! (of-opd ! (load ! (from ! (hop ! (look ! 9 refl) (stop !))) (look-raw ! 0 refl))) (from ! (stop !))
@@ -298,11 +308,13 @@ module _ {M : Type 1} (𝓤 : URA M) (H : Heap 𝓤) (A : Atoms 𝓤) (W : Given
     scan : Sq W (Ctx start) (runs C Λ En pieces.t-4 (atRet En Post))
     scan = first ! $ blocks ! $ loops ! 𝓣 Nearer Nearer-wf Ctx turns start
 
-  walk : (𝓣 : Tables 𝓤 H) → Triple 𝓤 (𝓣 .C #here) (Here 𝓤 H A at-mem run) → Is (ShrSlice (named 0) κ E.the-row) s (sliceVal (b, o) n ∷ []) → ent 𝓤 (onEntry 𝓤 H A who.signature (κ, tt) (q, tt) (s, (x, (y, tt))) at)
+  walk : (𝓣 : Tables 𝓤 H) → Triple 𝓤 (𝓣 .C #here) (Here 𝓤 H A at-mem run) → Is (ShrSlice (named 0) κ E.the-row) s (sliceVal (b, o) n ∷ [])
+      → ent 𝓤 (onEntry 𝓤 H A who.signature (κ, tt) (q, tt) (s, (x, (y, tt))) at)
       (WpFn 𝓤 H (𝓣 .C) (𝓣 .Λ) code.function (sliceVal (b, o) n ∷ vint w64 x ∷ vint w64 y ∷ []) Post)
   walk 𝓣 known p =
       qed W ((‵ (flft κ q) ⊛ ‵ ftrue) ∷ ‵ (owns (ShrSlice (named 0) κ E.the-row ∷ usize ∷ usize ∷ []) (s, (x, (y, tt))) at) ∷ []) ∵
-      split ! $ move ! (2 ∷ []) $ fsplit ! $ use1 W (‵ Own ⊛ ‵ Own) (shr-slice-copy 𝓤 H A W (named 0) κ E.the-row .twice s (sliceVal (b, o) n ∷ [])) $ split ! $ fsplit ! $ gone ! $ fsplit ! $ gone ! $ move ! (3 ∷ 0 ∷ 1 ∷ []) $
+      split ! $ move ! (2 ∷ []) $ fsplit ! $ use1 W (‵ Own ⊛ ‵ Own) (shr-slice-copy 𝓤 H A W (named 0) κ E.the-row .twice s (sliceVal (b, o) n ∷ [])) $ split ! $
+      fsplit ! $ gone ! $ fsplit ! $ gone ! $ move ! (3 ∷ 0 ∷ 1 ∷ []) $
       -- [the token; the fractured borrow; what the slice owns; …]
       enter ! (𝓣 .C) (𝓣 .Λ) code.function (sliceVal (b, o) n ∷ vint w64 x ∷ vint w64 y ∷ []) _ $
       alloc1 ! (λ l₀. alloc1 ! (λ l₁. alloc1 ! (λ l₂. alloc1 ! (λ l₃. alloc1 ! (λ l₄. alloc1 ! (λ l₅. alloc1 ! (λ l₆. alloc1 ! (λ l₇. alloc1 ! (λ l₈. alloc1 ! (λ l₉.
@@ -317,13 +329,20 @@ module _ {M : Type 1} (𝓤 : URA M) (H : Heap 𝓤) (A : Atoms 𝓤) (W : Given
 
 module _ {M : Type 1} (𝓤 : URA M) (H : Heap 𝓤) (A : Atoms 𝓤) (W : Given 𝓤 H A) (mem : Memory → SProp 𝓤) (run : Routine → Fun 𝓤) where
   who-walks : (𝓣 : Tables 𝓤 H) → Triple 𝓤 (𝓣 .C #here) (Here 𝓤 H A mem run) → Walks 𝓤 H A who.ended stayed (WpFn 𝓤 H (𝓣 .C) (𝓣 .Λ) code.function) (who.clauses 𝓤 H A mem run)
-  who-walks 𝓣 known = walked 𝓤 H A who.ended stayed (who.clauses 𝓤 H A mem run) (WpFn 𝓤 H (𝓣 .C) (𝓣 .Λ) code.function) (λ κs. (slice-vals, (uint-vals w64, (uint-vals w64, tt)))) (λ κs. (shr-slice-tells (named 0) (κs .0) E.the-row, (uint-tells w64, (uint-tells w64, tt))))
-      (λ κs qs bounds a g are. via 𝓤 _ (fst∗ 𝓤 _ (emp 𝓤)) (walk 𝓤 H A W mem run (κs .0) (qs .0) (a .0 .ptr .0) (a .0 .ptr .1) (a .0 .name) (a .0 .now) (a .1 .0) (a .1 .1 .0) (are .0 .0 .1) (are .1 .0 .1) (are .1 .1 .0 .1) 𝓣 known (are .0)))
+  who-walks 𝓣 known = walked 𝓤 H A who.ended stayed (who.clauses 𝓤 H A mem run) (WpFn 𝓤 H (𝓣 .C) (𝓣 .Λ) code.function)
+      (λ κs. (slice-vals, (uint-vals w64, (uint-vals w64, tt)))) (λ κs. (shr-slice-tells (named 0) (κs .0) E.the-row, (uint-tells w64, (uint-tells w64, tt))))
+      (λ κs qs bounds a g are. via 𝓤 _ (fst∗ 𝓤 _ (emp 𝓤))
+      (walk 𝓤 H A W mem run (κs .0) (qs .0) (a .0 .ptr .0) (a .0 .ptr .1) (a .0 .name) (a .0 .now) (a .1 .0) (a .1 .1 .0) (are .0 .0 .1) (are .1 .0 .1)
+      (are .1 .1 .0 .1) 𝓣 known (are .0)))
 
-who-meets : {M : Type 1} (𝓤 : URA M) (H : Heap 𝓤) (A : Atoms 𝓤) → Given 𝓤 H A → (mem : Memory → SProp 𝓤) (run : Routine → Fun 𝓤) (𝓣 : Tables 𝓤 H) → Triple 𝓤 (𝓣 .C #here) (Here 𝓤 H A mem run)
+who-meets : {M : Type 1} (𝓤 : URA M) (H : Heap 𝓤) (A : Atoms 𝓤) → Given 𝓤 H A → (mem : Memory → SProp 𝓤) (run : Routine → Fun 𝓤) (𝓣 : Tables 𝓤 H)
+    → Triple 𝓤 (𝓣 .C #here) (Here 𝓤 H A mem run)
     → Meets 𝓤 H A who.signature (WpFn 𝓤 H (𝓣 .C) (𝓣 .Λ) code.function) (who.spec 𝓤 H A mem run)
 who-meets 𝓤 H A W mem run 𝓣 known =
-    walk-meets 𝓤 H A who.ended stayed W (goes-none-slice 𝓤 H A W 1 (0 ∷ []) tt (plain (λ _. E.the-row)) yes, (goes-none 𝓤 H A W 1 (λ _. usize) yes (λ κs x f. refl), (goes-none 𝓤 H A W 1 (λ _. usize) yes (λ κs x f. refl), tt))) (who.clauses 𝓤 H A mem run)
+    walk-meets 𝓤 H A who.ended stayed W (
+      goes-none-slice 𝓤 H A W 1 (0 ∷ []) tt (plain (λ _. E.the-row)) yes,
+      (goes-none 𝓤 H A W 1 (λ _. usize) yes (λ κs x f. refl), (goes-none 𝓤 H A W 1 (λ _. usize) yes (λ κs x f. refl), tt)),
+    ) (who.clauses 𝓤 H A mem run)
     (WpFn 𝓤 H (𝓣 .C) (𝓣 .Λ) code.function) (WpFn-mono 𝓤 H (W .laws) 𝓣 code.function) (who-walks 𝓤 H A W mem run 𝓣 known)
 
 pub who-spec : {M : Type 1} → stated.statement M

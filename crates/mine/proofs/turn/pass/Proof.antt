@@ -1,4 +1,5 @@
--- `mine::pass` meets its contract: a walk of its MIR, by hand. The record's borrow is opened, both marks are read, `pass_at` is called on the state, the keys and the numbers, the marks of its answer are stored, the borrow is closed at the new record, and the rest of the answer is returned.
+-- `mine::pass` meets its contract: a walk of its MIR, by hand. The record's borrow is opened, both marks are read, `pass_at` is called on the state,
+-- the keys and the numbers, the marks of its answer are stored, the borrow is closed at the new record, and the rest of the answer is returned.
 -- All that the proof knows of `pass_at` is that it meets its contract; nothing here looks into the state. Assumes nothing.
 use mathlib.Core.Path.{_≡_, refl, ap}
 use Prim.Native.Nat.{ℕ, _<_, _^_}
@@ -17,7 +18,8 @@ use ghost.Atoms.{Atoms, sem}
 use contract.Lifetimes.{AllOutlive}
 use contract.Monad.{Fun, fact}
 use contract.Running.{givenOf, tables, tablesOf}
-use types.Kit.{Given, ‵, raw, some, later, _⊛_, ⋆, _$_, _∵_, !, qed, by, move, keep, drop, use1, use2, split, join, pick, rewrite, fsplit, fsplit3, fjoin, fjoin3, feqI, suffices, frame, await, done}
+use types.Kit.{Given, ‵, raw, some, later, _⊛_, ⋆, _$_, _∵_, !, qed, by, move, keep, drop, use1, use2, split, join, pick, rewrite, fsplit, fsplit3}
+use types.Kit.{fjoin, fjoin3, feqI, suffices, frame, await, done}
 use types.Run.{look, init, forget, stop, hop, fld, from, load, of-opd, and-then, no-more, assigns, land, returns, enter, alloc1, alloc0, params1, pass1, pass0, free1, free0}
 use types.Part.{whole, sub, look-in, store-in}
 use types.SemTy.{Body}
@@ -74,8 +76,10 @@ stayed = (stay-none (λ _. G.the-row) yes, (stay-none-slice (0 ∷ []) tt (plain
 abbrev PassAt : {M : Type 1} (𝓤 : URA M) (H : Heap 𝓤) (A : Atoms 𝓤) (mem : Memory → SProp 𝓤) (run : Routine → Fun 𝓤) → Contract 𝓤
 PassAt 𝓤 H A mem run = tripleOf 𝓤 H A pass-at.signature (pass-at.spec 𝓤 H A mem run)
 
-module _ {M : Type 1} (𝓤 : URA M) (H : Heap 𝓤) (A : Atoms 𝓤) (W : Given 𝓤 H A) (at-mem : Memory → SProp 𝓤) (run : Routine → Fun 𝓤) (κ κ′ : Lft) (bounds : AllOutlive 2 (pass.signature .outlives) (κ, (κ′, tt))) (q q′ : Share)
-    (m : Mine) (k : RefT (List ℕ)) (t : ℕ) (b o : ℕ) (γ : GName) (h : Pace) (m-is : Is G.the-row m (LL.val G.the-type G′.the-laws m ∷ [])) (k-is : Is (ShrSlice (named 0) κ u8) k (slice-vals k)) (t-fits : t < 2 ^ 32) where
+module _ {M : Type 1} (𝓤 : URA M) (H : Heap 𝓤) (A : Atoms 𝓤) (W : Given 𝓤 H A) (at-mem : Memory → SProp 𝓤) (run : Routine → Fun 𝓤) (κ κ′ : Lft)
+    (bounds : AllOutlive 2 (pass.signature .outlives) (κ, (κ′, tt))) (q q′ : Share)
+    (m : Mine) (k : RefT (List ℕ)) (t : ℕ) (b o : ℕ) (γ : GName) (h : Pace) (m-is : Is G.the-row m (LL.val G.the-type G′.the-laws m ∷ []))
+    (k-is : Is (ShrSlice (named 0) κ u8) k (slice-vals k)) (t-fits : t < 2 ^ 32) where
   abbrev x : Arg
   x = (m, (k, (t, (record { ptr = (b, o); name = γ; now = h }, tt))))
 
@@ -100,8 +104,10 @@ module _ {M : Type 1} (𝓤 : URA M) (H : Heap 𝓤) (A : Atoms 𝓤) (W : Given
 
   goes : h .first < 2 ^ 32 → h .second < 2 ^ 32 → ent 𝓤 (sep 𝓤 (A .lft κ q) (sem 𝓤 H A Keys)) (PassAt 𝓤 H A at-mem run .pre to)
   goes f s =
-      qed W (‵ (flft κ q) ∷ ‵ Keys ∷ []) ∵ nothing ! $ owned ! u32 (Is u32) (uint-makes 𝓤 H A W w32) (h .second) _ (refl, s) $ fjoin ! $ owned ! u32 (Is u32) (uint-makes 𝓤 H A W w32) (h .first) _ (refl, f) $ fjoin ! $
-      owned ! u32 (Is u32) (uint-makes 𝓤 H A W w32) t _ (refl, t-fits) $ fjoin ! $ move ! (2 ∷ 0 ∷ []) $ fjoin ! $ owned ! G.the-row (Is G.the-row) (LL.makes G.the-type G′.the-plain 𝓤 H A) m _ m-is $ fjoin ! $
+      qed W (‵ (flft κ q) ∷ ‵ Keys ∷ []) ∵ nothing ! $ owned ! u32 (Is u32) (uint-makes 𝓤 H A W w32) (h .second) _ (refl, s) $ fjoin ! $
+      owned ! u32 (Is u32) (uint-makes 𝓤 H A W w32) (h .first) _ (refl, f) $ fjoin ! $
+      owned ! u32 (Is u32) (uint-makes 𝓤 H A W w32) t _ (refl, t-fits) $ fjoin ! $ move ! (2 ∷ 0 ∷ []) $ fjoin ! $
+      owned ! G.the-row (Is G.the-row) (LL.makes G.the-type G′.the-plain 𝓤 H A) m _ m-is $ fjoin ! $
       nothing ! $ move ! (2 ∷ 0 ∷ []) $ join ! $ join ! $ frame ! $ done !
 
   said : (r : Turn) → ent 𝓤 (ensured 𝓤 H A pass-at.ended (pass-at.clauses 𝓤 H A at-mem run) (κ, tt) args tt r) (fact 𝓤 (r ≡ found))
@@ -114,14 +120,17 @@ module _ {M : Type 1} (𝓤 : URA M) (H : Heap 𝓤) (A : Atoms 𝓤) (W : Given
   second-fits : Is T.the-row h (T′.lowered h ∷ []) → h .second < 2 ^ 32
   second-fits g = LL.owed T.the-type T′.the-laws h _ g .1 .0 .1
 
-  fields : (r : Turn) {u : Val} (is : Is S.the-row r (u ∷ [])) → AreAll (D.fields S.the-type) (S.the-type .to r) (valss (D.fields S.the-type) (LL.spells (S.the-type .parts) S′.the-laws) (S.the-type .to r))
+  fields : (r : Turn) {u : Val} (is : Is S.the-row r (u ∷ []))
+      → AreAll (D.fields S.the-type) (S.the-type .to r) (valss (D.fields S.the-type) (LL.spells (S.the-type .parts) S′.the-laws) (S.the-type .to r))
   fields r is = LL.owed S.the-type S′.the-laws r _ is
 
   exits : (r : Turn) → Is P.the-row (r .passed) (LL.val P.the-type P′.the-laws (r .passed) ∷ []) → r ≡ found
-      → ent 𝓤 (⋆ 𝓤 H A (‵ (fobs γ (T.the-row .coded .code (marksOf r))) ∷ ‵ (fbor κ′ (Body (mem (T.the-row)) b o γ)) ∷ ‵ (flft κ′ q′) ∷ (‵ (flft κ q) ⊛ ‵ ftrue) ∷ ‵ Keys ∷ [])) (Post (LL.val P.the-type P′.the-laws (r .passed)))
+      → ent 𝓤 (⋆ 𝓤 H A (‵ (fobs γ (T.the-row .coded .code (marksOf r))) ∷ ‵ (fbor κ′ (Body (mem (T.the-row)) b o γ)) ∷ ‵ (flft κ′ q′) ∷
+      (‵ (flft κ q) ⊛ ‵ ftrue) ∷ ‵ Keys ∷ [])) (Post (LL.val P.the-type P′.the-laws (r .passed)))
   exits r is e =
       qed W (‵ (fobs γ (T.the-row .coded .code (marksOf r))) ∷ ‵ (fbor κ′ (Body (mem (T.the-row)) b o γ)) ∷ ‵ (flft κ′ q′) ∷ (‵ (flft κ q) ⊛ ‵ ftrue) ∷ ‵ Keys ∷ []) ∵
-      suffices ! _ (ends-at 𝓤 H A pass.ended stayed (pass.clauses 𝓤 H A at-mem run) W (((κ, (κ′, tt)), (q, (q′, tt)), bounds, x, at), tt) (LL.val P.the-type P′.the-laws (r .passed)) (r .passed) (tt, (tt, (tt, (marksOf r, tt)))) (tt, (tt, (tt, (tt, tt))))) $
+      suffices ! _ (ends-at 𝓤 H A pass.ended stayed (pass.clauses 𝓤 H A at-mem run) W (((κ, (κ′, tt)), (q, (q′, tt)), bounds, x, at), tt)
+      (LL.val P.the-type P′.the-laws (r .passed)) (r .passed) (tt, (tt, (tt, (marksOf r, tt)))) (tt, (tt, (tt, (tt, tt))))) $
       says ! (ap (λ (z : Turn). (z .passed, marksOf z)) e) $
       move ! (3 ∷ []) $ split ! $ move ! (4 ∷ 1 ∷ []) $ join ! $ move ! (1 ∷ 0 ∷ []) $ join ! $ frame ! $
       feqI ! (List Val) (vptr b o ∷ []) (vptr b o ∷ []) refl $ fjoin3 ! $ nothing ! $ move ! (1 ∷ 0 ∷ []) $ fjoin ! $
@@ -130,23 +139,31 @@ module _ {M : Type 1} (𝓤 : URA M) (H : Heap 𝓤) (A : Atoms 𝓤) (W : Given
       owned ! P.the-row (Is P.the-row) (LL.makes P.the-type P′.the-plain 𝓤 H A) (r .passed) _ is $ move ! (1 ∷ 0 ∷ []) $ done !
 
   module _ (C : Calls 𝓤 H) (Λ : Loops 𝓤 H) (fm : FmC 𝓤 H (W .laws) C) (known : Triple 𝓤 (C #pass-at) (PassAt 𝓤 H A at-mem run)) where
-    walk : ent 𝓤 (onEntry 𝓤 H A pass.signature (κ, (κ′, tt)) (q, (q′, tt)) x at) (WpFn 𝓤 H C Λ code.function (LL.val G.the-type G′.the-laws m ∷ sliceVal (k .ptr) (length (k .now)) ∷ vint w32 t ∷ vptr b o ∷ []) Post)
+    walk : ent 𝓤 (onEntry 𝓤 H A pass.signature (κ, (κ′, tt)) (q, (q′, tt)) x at)
+        (WpFn 𝓤 H C Λ code.function (LL.val G.the-type G′.the-laws m ∷ sliceVal (k .ptr) (length (k .now)) ∷ vint w32 t ∷ vptr b o ∷ []) Post)
     walk =
         qed W ((‵ (flft κ q) ⊛ ‵ (flft κ′ q′) ⊛ ‵ ftrue) ∷ ‵ (owns (G.the-row ∷ ShrSlice (named 0) κ u8 ∷ u32 ∷ MutRef (named 1) κ′ (T.the-row) ∷ []) x at) ∷ []) ∵
-        split ! $ move ! (1 ∷ []) $ split ! $ move ! (3 ∷ []) $ fsplit ! $ drop ! $ fsplit ! $ move ! (1 ∷ []) $ fsplit ! $ drop ! $ fsplit ! $ fsplit3 ! $ drop ! $ move ! (0 ∷ 1 ∷ 4 ∷ 3 ∷ 6 ∷ []) $
+        split ! $ move ! (1 ∷ []) $ split ! $ move ! (3 ∷ []) $ fsplit ! $ drop ! $ fsplit ! $ move ! (1 ∷ []) $ fsplit ! $ drop ! $ fsplit ! $ fsplit3 ! $ drop ! $
+        move ! (0 ∷ 1 ∷ 4 ∷ 3 ∷ 6 ∷ []) $
         -- [obs; the borrow; its token; what keys own; their token; …]
         enter ! C Λ code.function (LL.val G.the-type G′.the-laws m ∷ sliceVal (k .ptr) (length (k .now)) ∷ vint w32 t ∷ vptr b o ∷ []) _ $
         alloc1 ! (λ l₀. alloc1 ! (λ l₁. alloc1 ! (λ l₂. alloc1 ! (λ l₃. alloc1 ! (λ l₄. alloc1 ! (λ l₅. alloc1 ! (λ l₆. alloc1 ! (λ l₇. alloc0 ! $ params1 ! $
         pass1 ! (init ! 12 refl (LL.lawful G.the-type G′.the-laws 𝓤 H A W .typed m _ m-is .0)) $ pass1 ! (init ! 10 refl (shr-slice-lawful 𝓤 H A W (named 0) κ u8 .typed k _ k-is .0)) $ pass1 ! (init ! 8 refl (tt, record { fits = t-fits })) $ pass1 ! (init ! 6 refl (tt, tt)) $ pass0 ! $
-        move ! (16 ∷ 17 ∷ 18 ∷ []) $ opens ! tt (T.the-row) {h = h} b o (λ vs. spelt ! (T.the-row) (Is (T.the-row)) (shows 𝓤 H A (T.the-row)) (LL.vals T.the-type T′.the-laws) (LL.tells T.the-type T′.the-laws) fullShare h vs b o $
+        move ! (16 ∷ 17 ∷ 18 ∷ []) $ opens ! tt (T.the-row) {h = h} b o
+        (λ vs. spelt ! (T.the-row) (Is (T.the-row)) (shows 𝓤 H A (T.the-row)) (LL.vals T.the-type T′.the-laws) (LL.tells T.the-type T′.the-laws) fullShare h vs b o $
         move ! (1 ∷ []) $ peeks ! T.the-row (Is T.the-row) (shows 𝓤 H A T.the-row) h (T′.lowered h ∷ []) (λ g. move ! (1 ∷ 0 ∷ []) $
         -- [the record's cell; what a Pace owns; the open borrow; obs; auth; _7; …; _6; …; _5; …; _4; …; _3; …; _2; …; _1; …; room for _0; …; keys; their token; …]
         assigns ! (of-opd ! (load ! (from ! (hop ! (look ! 11 refl) (fld ! refl (stop !)))) (look-in ! 0 (sub ! 0 refl (whole !))))) (from ! (stop !)) (init ! 7 refl (tt, record { fits = first-fits g })) $
         assigns ! (of-opd ! (load ! (from ! (hop ! (look ! 11 refl) (fld ! refl (stop !)))) (look-in ! 0 (sub ! 1 refl (whole !))))) (from ! (stop !)) (init ! 5 refl (tt, record { fits = second-fits g })) $
         move ! (21 ∷ []) $ use1 W (‵ Keys ⊛ ‵ Keys) (shr-slice-copy 𝓤 H A W (named 0) κ u8 .twice k (slice-vals k)) $ split ! $ move ! (23 ∷ 0 ∷ []) $
         use2 W (raw (PassAt 𝓤 H A at-mem run .pre to)) (goes (first-fits g) (second-fits g)) $
-        calls-at ! fm (PassAt 𝓤 H A at-mem run) known to (and-then ! (load ! (from ! (stop !)) (look ! 19 refl)) (and-then ! (load ! (from ! (stop !)) (look ! 17 refl)) (and-then ! (load ! (from ! (stop !)) (look ! 15 refl)) (and-then ! (load ! (from ! (stop !)) (look ! 9 refl)) (and-then ! (load ! (from ! (stop !)) (look ! 7 refl)) (no-more !)))))) (λ u.
-        use1 W (later (some (λ (r : Turn). ((‵ (flft κ q) ⊛ ‵ ftrue) ⊛ ‵ (S.the-row .own r (u ∷ []))) ⊛ raw (ensured 𝓤 H A pass-at.ended (pass-at.clauses 𝓤 H A at-mem run) (κ, tt) args tt r)))) (id⊢ 𝓤 _) $ await ! tt $ pick ! (λ r.
+        calls-at ! fm (PassAt 𝓤 H A at-mem run) known to
+        (and-then ! (load ! (from ! (stop !)) (look ! 19 refl))
+        (and-then ! (load ! (from ! (stop !)) (look ! 17 refl))
+        (and-then ! (load ! (from ! (stop !)) (look ! 15 refl))
+        (and-then ! (load ! (from ! (stop !)) (look ! 9 refl)) (and-then ! (load ! (from ! (stop !)) (look ! 7 refl)) (no-more !)))))) (λ u.
+        use1 W (later (some (λ (r : Turn). ((‵ (flft κ q) ⊛ ‵ ftrue) ⊛ ‵ (S.the-row .own r (u ∷ []))) ⊛ raw
+        (ensured 𝓤 H A pass-at.ended (pass-at.clauses 𝓤 H A at-mem run) (κ, tt) args tt r)))) (id⊢ 𝓤 _) $ await ! tt $ pick ! (λ r.
         split ! $ move ! (1 ∷ []) $ use1 W (raw (fact 𝓤 (r ≡ found))) (said r) $ heard ! (r ≡ found) (λ e. split ! $ move ! (1 ∷ []) $
         peeks ! S.the-row (Is S.the-row) (shows 𝓤 H A S.the-row) r (u ∷ []) (λ is. drop ! $
         -- [the keys' token; keys; the record's cell; what a Pace owns; the open borrow; obs; auth; _7; …]
@@ -154,23 +171,38 @@ module _ {M : Type 1} (𝓤 : URA M) (H : Heap 𝓤) (A : Atoms 𝓤) (W : Given
         rewrite ! 11 (λ (w : Val). ‵ (fat fullShare S′.mir l₅ 0 w)) (ap only (LL.tells S.the-type S′.the-laws r (u ∷ []) is)) refl $
         assigns ! (of-opd ! (load ! (from ! (fld ! refl (stop !))) (look-in ! 11 (sub ! 0 refl (whole !))))) (from ! (hop ! (look ! 13 refl) (fld ! refl (stop !)))) (store-in ! 2 (sub ! 0 refl (whole !)) (tt, record { fits = fields r is .0 .1 })) $
         assigns ! (of-opd ! (load ! (from ! (fld ! refl (stop !))) (look-in ! 11 (sub ! 1 refl (whole !))))) (from ! (hop ! (look ! 13 refl) (fld ! refl (stop !)))) (store-in ! 2 (sub ! 1 refl (whole !)) (tt, record { fits = fields r is .1 .0 .1 })) $
-        assigns ! (of-opd ! (load ! (from ! (fld ! refl (stop !))) (look-in ! 11 (sub ! 2 refl (whole !))))) (from ! (stop !)) (init ! 21 refl (LL.lawful P.the-type P′.the-laws 𝓤 H A W .typed (r .passed) _ (fields r is .1 .1 .0) .0)) $
-        move ! (3 ∷ []) $ drop ! $ owned ! (T.the-row) (Is (T.the-row)) (LL.makes T.the-type T′.the-plain 𝓤 H A) (marksOf r) _ (LL.owes T.the-type T′.the-laws (marksOf r) ((refl, fields r is .0 .1), ((refl, fields r is .1 .0 .1), tt))) $
+        assigns ! (of-opd ! (load ! (from ! (fld ! refl (stop !))) (look-in ! 11 (sub ! 2 refl (whole !))))) (from ! (stop !))
+        (init ! 21 refl (LL.lawful P.the-type P′.the-laws 𝓤 H A W .typed (r .passed) _ (fields r is .1 .1 .0) .0)) $
+        move ! (3 ∷ []) $ drop ! $ owned ! (T.the-row) (Is (T.the-row)) (LL.makes T.the-type T′.the-plain 𝓤 H A) (marksOf r) _
+        (LL.owes T.the-type T′.the-laws (marksOf r) ((refl, fields r is .0 .1), ((refl, fields r is .1 .0 .1), tt))) $
         move ! (3 ∷ 0 ∷ 4 ∷ 5 ∷ 6 ∷ []) $ closes ! tt (T.the-row) (marksOf r) (T′.lowered (marksOf r) ∷ []) b o $
-        returns ! (look ! 19 refl) $ forget ! 5 refl $ forget ! 7 refl $ forget ! 9 refl $ forget ! 11 refl $ forget ! 13 refl $ forget ! 15 refl $ forget ! 17 refl $ forget ! 19 refl $
-        move ! (19 ∷ 20 ∷ []) $ free1 ! $ move ! (17 ∷ 18 ∷ []) $ free1 ! $ move ! (15 ∷ 16 ∷ []) $ free1 ! $ move ! (13 ∷ 14 ∷ []) $ free1 ! $ move ! (11 ∷ 12 ∷ []) $ free1 ! $ move ! (9 ∷ 10 ∷ []) $ free1 ! $ move ! (7 ∷ 8 ∷ []) $ free1 ! $ move ! (5 ∷ 6 ∷ []) $ free1 ! $ free0 ! $
+        returns ! (look ! 19 refl) $ forget ! 5 refl $ forget ! 7 refl $ forget ! 9 refl $ forget ! 11 refl $ forget ! 13 refl $ forget ! 15 refl $ forget ! 17 refl $
+        forget ! 19 refl $
+        move ! (19 ∷ 20 ∷ []) $ free1 ! $ move ! (17 ∷ 18 ∷ []) $ free1 ! $ move ! (15 ∷ 16 ∷ []) $ free1 ! $ move ! (13 ∷ 14 ∷ []) $ free1 ! $ move ! (11 ∷ 12 ∷ []) $
+        free1 ! $ move ! (9 ∷ 10 ∷ []) $ free1 ! $ move ! (7 ∷ 8 ∷ []) $ free1 ! $ move ! (5 ∷ 6 ∷ []) $ free1 ! $ free0 ! $
         keep ! (0 ∷ 1 ∷ 2 ∷ 3 ∷ 4 ∷ []) $ by ! (exits r (fields r is .1 .1 .0) e)))))))))))))))
 
 module _ {M : Type 1} (𝓤 : URA M) (H : Heap 𝓤) (A : Atoms 𝓤) (W : Given 𝓤 H A) (mem : Memory → SProp 𝓤) (run : Routine → Fun 𝓤) where
-  pass-walks : (C : Calls 𝓤 H) (Λ : Loops 𝓤 H) → FmC 𝓤 H (W .laws) C → Triple 𝓤 (C #pass-at) (PassAt 𝓤 H A mem run) → Walks 𝓤 H A pass.ended stayed (WpFn 𝓤 H C Λ code.function) (pass.clauses 𝓤 H A mem run)
-  pass-walks C Λ fm known = walked 𝓤 H A pass.ended stayed (pass.clauses 𝓤 H A mem run) (WpFn 𝓤 H C Λ code.function) (λ κs. (LL.vals G.the-type G′.the-laws, (slice-vals, (uint-vals w32, (ptr-vals, tt)))))
+  pass-walks : (C : Calls 𝓤 H) (Λ : Loops 𝓤 H) → FmC 𝓤 H (W .laws) C → Triple 𝓤 (C #pass-at) (PassAt 𝓤 H A mem run)
+      → Walks 𝓤 H A pass.ended stayed (WpFn 𝓤 H C Λ code.function) (pass.clauses 𝓤 H A mem run)
+  pass-walks C Λ fm known = walked 𝓤 H A pass.ended stayed (pass.clauses 𝓤 H A mem run) (WpFn 𝓤 H C Λ code.function)
+      (λ κs. (LL.vals G.the-type G′.the-laws, (slice-vals, (uint-vals w32, (ptr-vals, tt)))))
       (λ κs. (LL.tells G.the-type G′.the-laws, (shr-slice-tells (named 0) (κs .0) u8, (uint-tells w32, (mut-tells (named 1) (κs .1 .0) (T.the-row), tt)))))
-      (λ κs qs bounds a g are. via 𝓤 _ (fst∗ 𝓤 _ (emp 𝓤)) (walk 𝓤 H A W mem run (κs .0) (κs .1 .0) bounds (qs .0) (qs .1 .0) (a .0) (a .1 .0) (a .1 .1 .0) (a .1 .1 .1 .0 .ptr .0) (a .1 .1 .1 .0 .ptr .1) (a .1 .1 .1 .0 .name) (a .1 .1 .1 .0 .now) (are .0) (are .1 .0) (are .1 .1 .0 .1) C Λ fm known))
+      (λ κs qs bounds a g are. via 𝓤 _ (fst∗ 𝓤 _ (emp 𝓤))
+      (walk 𝓤 H A W mem run (κs .0) (κs .1 .0) bounds (qs .0) (qs .1 .0) (a .0) (a .1 .0) (a .1 .1 .0) (a .1 .1 .1 .0 .ptr .0) (a .1 .1 .1 .0 .ptr .1)
+      (a .1 .1 .1 .0 .name) (a .1 .1 .1 .0 .now) (are .0) (are .1 .0) (are .1 .1 .0 .1) C Λ fm known))
 
-pass-meets : {M : Type 1} (𝓤 : URA M) (H : Heap 𝓤) (A : Atoms 𝓤) → Given 𝓤 H A → (mem : Memory → SProp 𝓤) (run : Routine → Fun 𝓤) (𝓣 : Tables 𝓤 H) → Triple 𝓤 (𝓣 .C #pass-at) (PassAt 𝓤 H A mem run)
+pass-meets : {M : Type 1} (𝓤 : URA M) (H : Heap 𝓤) (A : Atoms 𝓤) → Given 𝓤 H A → (mem : Memory → SProp 𝓤) (run : Routine → Fun 𝓤) (𝓣 : Tables 𝓤 H)
+    → Triple 𝓤 (𝓣 .C #pass-at) (PassAt 𝓤 H A mem run)
     → Meets 𝓤 H A pass.signature (WpFn 𝓤 H (𝓣 .C) (𝓣 .Λ) code.function) (pass.spec 𝓤 H A mem run)
 pass-meets 𝓤 H A W mem run 𝓣 known =
-    walk-meets 𝓤 H A pass.ended stayed W (goes-none 𝓤 H A W 2 (λ _. G.the-row) yes (λ κs x f. refl), (goes-none-slice 𝓤 H A W 2 (0 ∷ []) tt (plain (λ _. u8)) yes, (goes-none 𝓤 H A W 2 (λ _. u32) yes (λ κs x f. refl), (goes-ref 𝓤 H A W 2 1 tt (plain (λ _. T.the-row)), tt)))) (pass.clauses 𝓤 H A mem run)
+    walk-meets 𝓤 H A pass.ended stayed W (
+      goes-none 𝓤 H A W 2 (λ _. G.the-row) yes (λ κs x f. refl),
+      (
+        goes-none-slice 𝓤 H A W 2 (0 ∷ []) tt (plain (λ _. u8)) yes,
+        (goes-none 𝓤 H A W 2 (λ _. u32) yes (λ κs x f. refl), (goes-ref 𝓤 H A W 2 1 tt (plain (λ _. T.the-row)), tt)),
+      ),
+    ) (pass.clauses 𝓤 H A mem run)
     (WpFn 𝓤 H (𝓣 .C) (𝓣 .Λ) code.function) (WpFn-mono 𝓤 H (W .laws) 𝓣 code.function) (pass-walks 𝓤 H A W mem run (𝓣 .C) (𝓣 .Λ) (fmOf 𝓤 H (W .laws) 𝓣) known)
 
 pub pass-spec : {M : Type 1} → stated.statement M

@@ -11,29 +11,21 @@ returns : tie.Need-returns
 unfolding cutterDirected exactly
 returns c = simp (ne-eqb _ _ (c .if1 .taken))
 
-shared-slice-read-direction : tie.Need-shared-slice-read-direction
-shared-slice-read-direction c = search needs
-
-direction-requires : tie.Need-direction-requires
-direction-requires c κs = search needs
-
-cutter-answered-requires : tie.Need-cutter-answered-requires
-cutter-answered-requires c κs = search needs
-
 returns-2 : tie.Need-returns-2
 unfolding cutterDirected exactly
 returns-2 c =
     let k1 = c .before .before .before in
     let k2 = k1 .before .before .before .before .before in
     let a = k2 .args in
-    rw (eq-eqb _ _ (k1 .«if1» .left)) (c .«cutter-answered» .ensures ∙ ap (answered (a .h) (a .args .now) (a .current .now) (a .state .now) (a .result .now) (a .p)) (c .before .«direction» .ensures))
+    rw (eq-eqb _ _ (k1 .«if1» .left))
+    (c .«cutter-answered» .ensures ∙ ap (answered (a .h) (a .args .now) (a .current .now) (a .state .now) (a .result .now) (a .p)) (c .before .«direction» .ensures))
 
 pub directed-spec : {M : Type 1} → statement M
 directed-spec =
     tie.close
     (tie.spec
     returns
-    shared-slice-read-direction
-    direction-requires
-    cutter-answered-requires
+    (λ c. search needs)
+    (λ c κs. search needs)
+    (λ c κs. search needs)
     returns-2)

@@ -5,17 +5,12 @@ use Rattle.trace_calls.specs.Cutters.{answered, cutterLevelled}
 use Rattle.trace_calls.proofs.cutters.levelled.Statement.{statement}
 use Rattle.trace_calls.proofs.cutters.levelled.Tie as tie
 
-new-level-requires : tie.Need-new-level-requires
-new-level-requires c κs = search needs
-
-cutter-answered-requires : tie.Need-cutter-answered-requires
-cutter-answered-requires c κs = search needs
-
 returns : tie.Need-returns
 unfolding cutterLevelled
 returns c =
     let k1 = c .before .before .before .before .before .before in
-    let a = k1 .args in c .«cutter-answered» .ensures ∙ ap (answered (a .h) (a .draws .now) (a .current .now) (a .state .now) (a .result .now) (a .p)) (c .before .«new-level» .ensures)
+    let a = k1 .args in c .«cutter-answered» .ensures
+    ∙ ap (answered (a .h) (a .draws .now) (a .current .now) (a .state .now) (a .result .now) (a .p)) (c .before .«new-level» .ensures)
 
 pub levelled-spec : {M : Type 1} → statement M
-levelled-spec = tie.close (tie.spec new-level-requires cutter-answered-requires returns)
+levelled-spec = tie.close (tie.spec (λ c κs. search needs) (λ c κs. search needs) returns)

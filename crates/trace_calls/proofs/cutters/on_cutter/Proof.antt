@@ -4,51 +4,13 @@ use mathlib.Core.Path.{ap, ap₂, _∙_}
 use borrow.Author.Tests.{ne-eqb}
 use Rattle.pace.specs.declared.Pace.{Pace}
 use Rattle.cutter_state.specs.declared.Cutter.{Cutter}
-use Rattle.trace_calls.specs.Cutters.{cutterDirected, cutterStepped, cutterSwept, cutterTicked, cutterRespawned, cutterLevelled, cutterPassed, cutterPictured, cutterReported, cutterStarted}
+use Rattle.trace_calls.specs.Cutters.{cutterDirected, cutterStepped, cutterSwept, cutterTicked, cutterRespawned, cutterLevelled, cutterPassed}
+use Rattle.trace_calls.specs.Cutters.{cutterPictured, cutterReported, cutterStarted}
 use Rattle.trace_calls.specs.Either.{onEither}
 use Rattle.trace_calls.specs.Cutters.{onCutter}
 use Rattle.trace_calls.proofs.Numbered.{tested}
 use Rattle.trace_calls.proofs.cutters.on_cutter.Statement.{statement}
 use Rattle.trace_calls.proofs.cutters.on_cutter.Tie as tie
-
-cutter-of-requires : tie.Need-cutter-of-requires
-cutter-of-requires c κs = search needs
-
-marks-of-requires : tie.Need-marks-of-requires
-marks-of-requires c κs = search needs
-
-directed-requires : tie.Need-directed-requires
-directed-requires c κs = search needs
-
-stepped-requires : tie.Need-stepped-requires
-stepped-requires c κs = search needs
-
-ticked-requires : tie.Need-ticked-requires
-ticked-requires c κs = search needs
-
-respawned-requires : tie.Need-respawned-requires
-respawned-requires c κs = search needs
-
-levelled-requires : tie.Need-levelled-requires
-levelled-requires c κs = search needs
-
-passed-requires : tie.Need-passed-requires
-passed-requires c κs = search needs
-
-pictured-requires : tie.Need-pictured-requires
-pictured-requires c κs = search needs
-
-reported-requires : tie.Need-reported-requires
-reported-requires c κs = search needs
-
-swept-requires : tie.Need-swept-requires
-swept-requires c κs = search needs
-
-started-requires : tie.Need-started-requires
-started-requires c κs = search needs
-
-on-either-requires : tie.Need-on-either-requires
-on-either-requires c κs = search needs
 
 returns : tie.Need-returns
 unfolding onCutter
@@ -56,7 +18,8 @@ returns c =
     let k1 = c .before .before .before in
     let k2 = k1 .before .before .before .before .before in
     let a = k2 .args in
-    simp (tested (c .before .match .keys1) 18) (c .«directed» .ensures ∙ ap₂ (λ (g : Cutter) (p : Pace). cutterDirected (a .h) (a .args .now) (a .current .now) (a .state .now) (a .result .now) g p) (k1 .«cutter-of» .ensures) (c .before .before .«marks-of» .ensures))
+    simp (tested (c .before .match .keys1) 18) (c .«directed» .ensures ∙ ap₂ (λ (g : Cutter) (p : Pace). cutterDirected (a .h) (a .args .now) (a .current .now)
+        (a .state .now) (a .result .now) g p) (k1 .«cutter-of» .ensures) (c .before .before .«marks-of» .ensures))
 
 returns-2 : tie.Need-returns-2
 unfolding onCutter
@@ -64,7 +27,8 @@ returns-2 c =
     let k1 = c .before .before .before in
     let k2 = k1 .before .before .before .before .before in
     let a = k2 .args in
-    simp (tested (c .before .match .keys2) 18, tested (c .before .match .keys2) 19) (c .«stepped» .ensures ∙ ap₂ (λ (g : Cutter) (p : Pace). cutterStepped (a .h) (a .args .now) (a .current .now) (a .state .now) (a .result .now) g p) (k1 .«cutter-of» .ensures) (c .before .before .«marks-of» .ensures))
+    simp (tested (c .before .match .keys2) 18, tested (c .before .match .keys2) 19) (c .«stepped» .ensures ∙ ap₂ (λ (g : Cutter) (p : Pace). cutterStepped (a .h)
+        (a .args .now) (a .current .now) (a .state .now) (a .result .now) g p) (k1 .«cutter-of» .ensures) (c .before .before .«marks-of» .ensures))
 
 returns-3 : tie.Need-returns-3
 unfolding onCutter
@@ -72,7 +36,8 @@ returns-3 c =
     let k1 = c .before .before .before in
     let k2 = k1 .before .before .before .before .before in
     let a = k2 .args in
-    simp (tested (c .before .match .keys3) 18, tested (c .before .match .keys3) 19, tested (c .before .match .keys3) 20) (c .«ticked» .ensures ∙ ap₂ (λ (g : Cutter) (p : Pace). cutterTicked (a .h) (a .args .now) (a .current .now) (a .state .now) (a .result .now) g p) (k1 .«cutter-of» .ensures) (c .before .before .«marks-of» .ensures))
+    simp (tested (c .before .match .keys3) 18, tested (c .before .match .keys3) 19, tested (c .before .match .keys3) 20) (c .«ticked» .ensures ∙ ap₂ (λ (g : Cutter)
+        (p : Pace). cutterTicked (a .h) (a .args .now) (a .current .now) (a .state .now) (a .result .now) g p) (k1 .«cutter-of» .ensures) (c .before .before .«marks-of» .ensures))
 
 returns-4 : tie.Need-returns-4
 unfolding onCutter
@@ -104,7 +69,9 @@ returns-7 c =
     let k1 = c .before .before .before in
     let k2 = k1 .before .before .before .before .before in
     let a = k2 .args in
-    simp (tested (c .before .match .keys7) 18, tested (c .before .match .keys7) 19, tested (c .before .match .keys7) 20, tested (c .before .match .keys7) 21, tested (c .before .match .keys7) 22, tested (c .before .match .keys7) 23, tested (c .before .match .keys7) 24) (c .«pictured» .ensures ∙ ap (cutterPictured (a .h) (a .args .now) (a .current .now) (a .state .now) (a .result .now)) (k1 .«cutter-of» .ensures))
+    simp (tested (c .before .match .keys7) 18, tested (c .before .match .keys7) 19, tested (c .before .match .keys7) 20, tested (c .before .match .keys7) 21,
+        tested (c .before .match .keys7) 22, tested (c .before .match .keys7) 23, tested (c .before .match .keys7) 24)
+        (c .«pictured» .ensures ∙ ap (cutterPictured (a .h) (a .args .now) (a .current .now) (a .state .now) (a .result .now)) (k1 .«cutter-of» .ensures))
 
 returns-8 : tie.Need-returns-8
 unfolding onCutter
@@ -112,7 +79,9 @@ returns-8 c =
     let k1 = c .before .before .before in
     let k2 = k1 .before .before .before .before .before in
     let a = k2 .args in
-    simp (tested (c .before .match .keys8) 18, tested (c .before .match .keys8) 19, tested (c .before .match .keys8) 20, tested (c .before .match .keys8) 21, tested (c .before .match .keys8) 22, tested (c .before .match .keys8) 23, tested (c .before .match .keys8) 24, tested (c .before .match .keys8) 25) (c .«reported» .ensures ∙ ap (cutterReported (a .h) (a .args .now) (a .current .now) (a .state .now) (a .result .now)) (k1 .«cutter-of» .ensures))
+    simp (tested (c .before .match .keys8) 18, tested (c .before .match .keys8) 19, tested (c .before .match .keys8) 20, tested (c .before .match .keys8) 21,
+        tested (c .before .match .keys8) 22, tested (c .before .match .keys8) 23, tested (c .before .match .keys8) 24, tested (c .before .match .keys8) 25)
+        (c .«reported» .ensures ∙ ap (cutterReported (a .h) (a .args .now) (a .current .now) (a .state .now) (a .result .now)) (k1 .«cutter-of» .ensures))
 
 returns-9 : tie.Need-returns-9
 unfolding onCutter
@@ -128,7 +97,10 @@ returns-10 c =
     let k1 = c .before .before .before in
     let k2 = k1 .before .before .before .before .before in
     let a = k2 .args in
-    simp (tested (c .before .match .keys10) 18, tested (c .before .match .keys10) 19, tested (c .before .match .keys10) 20, tested (c .before .match .keys10) 21, tested (c .before .match .keys10) 22, tested (c .before .match .keys10) 23, tested (c .before .match .keys10) 24, tested (c .before .match .keys10) 25, tested (c .before .match .keys10) 29, tested (c .before .match .keys10) 32) (c .«started» .ensures ∙ ap (cutterStarted (a .h) (a .args .now) (a .current .now) (a .state .now) (a .result .now)) (k1 .«cutter-of» .ensures))
+    simp (tested (c .before .match .keys10) 18, tested (c .before .match .keys10) 19, tested (c .before .match .keys10) 20, tested (c .before .match .keys10) 21,
+        tested (c .before .match .keys10) 22, tested (c .before .match .keys10) 23, tested (c .before .match .keys10) 24, tested (c .before .match .keys10) 25,
+        tested (c .before .match .keys10) 29, tested (c .before .match .keys10) 32)
+        (c .«started» .ensures ∙ ap (cutterStarted (a .h) (a .args .now) (a .current .now) (a .state .now) (a .result .now)) (k1 .«cutter-of» .ensures))
 
 returns-11 : tie.Need-returns-11
 unfolding onCutter
@@ -136,25 +108,28 @@ returns-11 c =
     let k1 = c .before .before .before .before .before .before .before .before in
     let a = k1 .args in
     let n = c .before .match .rest in
-    simp (ne-eqb _ _ (n .0 .0 .0 .0 .0 .0 .0 .0 .0 .1), ne-eqb _ _ (n .0 .0 .0 .0 .0 .0 .0 .0 .1), ne-eqb _ _ (n .0 .0 .0 .0 .0 .0 .0 .1), ne-eqb _ _ (n .0 .0 .0 .0 .0 .0 .1), ne-eqb _ _ (n .0 .0 .0 .0 .0 .1), ne-eqb _ _ (n .0 .0 .0 .0 .1), ne-eqb _ _ (n .0 .0 .0 .1), ne-eqb _ _ (n .0 .0 .1), ne-eqb _ _ (n .0 .1), ne-eqb _ _ (n .1)) (c .«on-either» .ensures ∙ ap (onEither (a .h) (a .args .now) (a .current .now) (a .state .now) (a .result .now)) (c .before .before .«marks-of» .ensures))
+    simp (ne-eqb _ _ (n .0 .0 .0 .0 .0 .0 .0 .0 .0 .1), ne-eqb _ _ (n .0 .0 .0 .0 .0 .0 .0 .0 .1), ne-eqb _ _ (n .0 .0 .0 .0 .0 .0 .0 .1),
+        ne-eqb _ _ (n .0 .0 .0 .0 .0 .0 .1), ne-eqb _ _ (n .0 .0 .0 .0 .0 .1), ne-eqb _ _ (n .0 .0 .0 .0 .1), ne-eqb _ _ (n .0 .0 .0 .1), ne-eqb _ _ (n .0 .0 .1),
+        ne-eqb _ _ (n .0 .1), ne-eqb _ _ (n .1))
+        (c .«on-either» .ensures ∙ ap (onEither (a .h) (a .args .now) (a .current .now) (a .state .now) (a .result .now)) (c .before .before .«marks-of» .ensures))
 
 pub on-cutter-spec : {M : Type 1} → statement M
 on-cutter-spec =
     tie.close
     (tie.spec
-    cutter-of-requires
-    marks-of-requires
-    directed-requires
-    stepped-requires
-    ticked-requires
-    respawned-requires
-    levelled-requires
-    passed-requires
-    pictured-requires
-    reported-requires
-    swept-requires
-    started-requires
-    on-either-requires
+    (λ c κs. search needs)
+    (λ c κs. search needs)
+    (λ c κs. search needs)
+    (λ c κs. search needs)
+    (λ c κs. search needs)
+    (λ c κs. search needs)
+    (λ c κs. search needs)
+    (λ c κs. search needs)
+    (λ c κs. search needs)
+    (λ c κs. search needs)
+    (λ c κs. search needs)
+    (λ c κs. search needs)
+    (λ c κs. search needs)
     returns
     returns-2
     returns-3

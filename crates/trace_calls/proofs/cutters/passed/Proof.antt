@@ -17,18 +17,6 @@ returns : tie.Need-returns
 unfolding cutterPassed atLeast
 returns c = simp (lt-ltb _ _ (c .if1 .taken))
 
-word-requires : tie.Need-word-requires
-word-requires c κs = search needs
-
-cast-time : tie.Need-cast-time
-cast-time c = search needs
-
-word-requires-2 : tie.Need-word-requires-2
-word-requires-2 c κs = search needs
-
-add-at : tie.Need-add-at
-add-at c = search needs
-
 returns-2 : tie.Need-returns-2
 unfolding cutterPassed atLeast
 returns-2 c =
@@ -36,33 +24,6 @@ returns-2 c =
     let n = c .before .«word2» in
     let short : length (a .args .now) < BEFORE-KEYS + keyCount (a .h) (a .args .now) (a .current .now) (a .state .now) (a .result .now) = rw (n .ensures .is) at (c .if2 .taken) in
     simp (le-ltb _ _ (c .before .before .before .«if1» .left), lt-ltb _ _ short)
-
-sub-pass-marks : tie.Need-sub-pass-marks
-sub-pass-marks c = search needs
-
-part-pass-marks-start : tie.Need-part-pass-marks-start
-part-pass-marks-start c = search needs
-
-part-pass-marks-end : tie.Need-part-pass-marks-end
-part-pass-marks-end c = search needs
-
-sub-pass-marks-2 : tie.Need-sub-pass-marks-2
-sub-pass-marks-2 c = search needs
-
-part-pass-marks-start-2 : tie.Need-part-pass-marks-start-2
-part-pass-marks-start-2 c = search needs
-
-part-pass-marks-end-2 : tie.Need-part-pass-marks-end-2
-part-pass-marks-end-2 c = search needs
-
-pass-marks-requires : tie.Need-pass-marks-requires
-pass-marks-requires c κs = search needs
-
-number-requires : tie.Need-number-requires
-number-requires c κs = search needs
-
-cutter-told-requires : tie.Need-cutter-told-requires
-cutter-told-requires c κs = search needs
 
 returns-3 : tie.Need-returns-3
 unfolding cutterPassed atLeast
@@ -80,30 +41,36 @@ returns-3 c =
     let t = k1 .«pass-marks» in
     let long : BEFORE-KEYS + keyCount (a .h) (a .args .now) (a .current .now) (a .state .now) (a .result .now) ≤ length l = rw (n .ensures .is) at (k2 .«if2» .left) in
     let count : BEFORE-KEYS + n .result - BEFORE-KEYS ≡ n .result = omega arith in
-    let keys : t .result ≡ passAt (a .c) (take (n .result) (drop BEFORE-KEYS l)) (take (length l - (BEFORE-KEYS + n .result)) (drop (BEFORE-KEYS + n .result) l)) (w .result) (a .p .first) (a .p .second) = subst (λ (k : ℕ). t .result ≡ passAt (a .c) (take k (drop BEFORE-KEYS l)) (take (length l - (BEFORE-KEYS + n .result)) (drop (BEFORE-KEYS + n .result) l)) (w .result) (a .p .first) (a .p .second)) count (t .ensures) in
-    let draws : t .result ≡ passAt (a .c) (take (n .result) (drop BEFORE-KEYS l)) (drop (BEFORE-KEYS + n .result) l) (w .result) (a .p .first) (a .p .second) = subst (λ (d : List ℕ). t .result ≡ passAt (a .c) (take (n .result) (drop BEFORE-KEYS l)) d (w .result) (a .p .first) (a .p .second)) (rest-is (BEFORE-KEYS + n .result) l) keys in
+    let keys : t .result ≡ passAt (a .c) (take (n .result) (drop BEFORE-KEYS l)) (take (length l - (BEFORE-KEYS + n .result)) (drop (BEFORE-KEYS + n .result) l))
+    (w .result) (a .p .first) (a .p .second) = subst
+    (λ (k : ℕ). t .result ≡ passAt (a .c) (take k (drop BEFORE-KEYS l)) (take (length l - (BEFORE-KEYS + n .result)) (drop (BEFORE-KEYS + n .result) l)) (w .result)
+    (a .p .first) (a .p .second)) count (t .ensures) in
+    let draws : t .result ≡ passAt (a .c) (take (n .result) (drop BEFORE-KEYS l)) (drop (BEFORE-KEYS + n .result) l) (w .result) (a .p .first) (a .p .second) = subst
+    (λ (d : List ℕ). t .result ≡ passAt (a .c) (take (n .result) (drop BEFORE-KEYS l)) d (w .result) (a .p .first) (a .p .second)) (rest-is (BEFORE-KEYS + n .result) l) keys in
     simp (le-ltb _ _ (k5 .«if1» .left), le-ltb _ _ long)
     (c .«cutter-told» .ensures
-    ∙ ap (λ (k : ℕ). cutterTold (a .h) (a .current .now) (a .state .now) (a .result .now) (t .result .passed .refusal) k (t .result .passed .game) (marksOf (t .result))) (c .before .«number» .ensures)
-    ∙ ap (turned (a .h) (a .args .now) (a .current .now) (a .state .now) (a .result .now)) (draws ∙ ap₂ (λ (k m : ℕ). passAt (a .c) (take k (drop BEFORE-KEYS l)) (drop (BEFORE-KEYS + k) l) m (a .p .first) (a .p .second)) (n .ensures .is) (w .ensures .is)))
+    ∙ ap (λ (k : ℕ). cutterTold (a .h) (a .current .now) (a .state .now) (a .result .now) (t .result .passed .refusal) k (t .result .passed .game) (marksOf (t .result)))
+    (c .before .«number» .ensures)
+    ∙ ap (turned (a .h) (a .args .now) (a .current .now) (a .state .now) (a .result .now)) (draws ∙ ap₂ (λ (k m : ℕ). passAt (a .c) (take k (drop BEFORE-KEYS l))
+    (drop (BEFORE-KEYS + k) l) m (a .p .first) (a .p .second)) (n .ensures .is) (w .ensures .is)))
 
 pub passed-spec : {M : Type 1} → statement M
 passed-spec =
     tie.close
     (tie.spec
     returns
-    word-requires
-    cast-time
-    word-requires-2
-    add-at
+    (λ c κs. search needs)
+    (λ c. search needs)
+    (λ c κs. search needs)
+    (λ c. search needs)
     returns-2
-    sub-pass-marks
-    part-pass-marks-start
-    part-pass-marks-end
-    sub-pass-marks-2
-    part-pass-marks-start-2
-    part-pass-marks-end-2
-    pass-marks-requires
-    number-requires
-    cutter-told-requires
+    (λ c. search needs)
+    (λ c. search needs)
+    (λ c. search needs)
+    (λ c. search needs)
+    (λ c. search needs)
+    (λ c. search needs)
+    (λ c κs. search needs)
+    (λ c κs. search needs)
+    (λ c κs. search needs)
     returns-3)

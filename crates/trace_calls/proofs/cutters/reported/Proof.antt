@@ -14,39 +14,6 @@ returns : tie.Need-returns
 unfolding cutterReported exactly
 returns c = simp (ne-eqb _ _ (c .if1 .taken))
 
-ground-report-requires : tie.Need-ground-report-requires
-ground-report-requires c κs = search needs
-
-cast-put-pair : tie.Need-cast-put-pair
-cast-put-pair c = search needs
-
-cast-put-pair-2 : tie.Need-cast-put-pair-2
-cast-put-pair-2 c = search needs
-
-slice-aggregate-put-pair : tie.Need-slice-aggregate-put-pair
-slice-aggregate-put-pair c = search needs
-
-put-pair-requires : tie.Need-put-pair-requires
-put-pair-requires c κs = search needs
-
-cast-put-pair-3 : tie.Need-cast-put-pair-3
-cast-put-pair-3 c = search needs
-
-cast-put-pair-4 : tie.Need-cast-put-pair-4
-cast-put-pair-4 c = search needs
-
-slice-aggregate-put-pair-2 : tie.Need-slice-aggregate-put-pair-2
-slice-aggregate-put-pair-2 c = search needs
-
-put-pair-requires-2 : tie.Need-put-pair-requires-2
-put-pair-requires-2 c κs = search needs
-
-slice-aggregate-compared-with : tie.Need-slice-aggregate-compared-with
-slice-aggregate-compared-with c = search needs
-
-compared-with-requires : tie.Need-compared-with-requires
-compared-with-requires c κs = search needs
-
 returns-2 : tie.Need-returns-2
 unfolding cutterReported exactly
 returns-2 c =
@@ -58,22 +25,24 @@ returns-2 c =
     let a = k5 .args in
     let g = k3 .«ground-report» in
     rw (eq-eqb _ _ (k4 .«if1» .left))
-    (c .«compared-with» .ensures ∙ ap (λ (l : List ℕ). stays (a .h) (a .current .now) (a .state .now) (a .result .now) (g .result .refusal) l) (lays-whole refl (lays-both (k2 .«put-pair» .ensures) (k1 .«put-pair2» .ensures))) ∙ ap (ground (a .h) (a .args .now) (a .current .now) (a .state .now) (a .result .now)) (g .ensures))
+    (c .«compared-with» .ensures ∙ ap (λ (l : List ℕ). stays (a .h) (a .current .now) (a .state .now) (a .result .now) (g .result .refusal) l)
+    (lays-whole refl (lays-both (k2 .«put-pair» .ensures) (k1 .«put-pair2» .ensures)))
+    ∙ ap (ground (a .h) (a .args .now) (a .current .now) (a .state .now) (a .result .now)) (g .ensures))
 
 pub reported-spec : {M : Type 1} → statement M
 reported-spec =
     tie.close
     (tie.spec
     returns
-    ground-report-requires
-    cast-put-pair
-    cast-put-pair-2
-    slice-aggregate-put-pair
-    put-pair-requires
-    cast-put-pair-3
-    cast-put-pair-4
-    slice-aggregate-put-pair-2
-    put-pair-requires-2
-    slice-aggregate-compared-with
-    compared-with-requires
+    (λ c κs. search needs)
+    (λ c. search needs)
+    (λ c. search needs)
+    (λ c. search needs)
+    (λ c κs. search needs)
+    (λ c. search needs)
+    (λ c. search needs)
+    (λ c. search needs)
+    (λ c κs. search needs)
+    (λ c. search needs)
+    (λ c κs. search needs)
     returns-2)

@@ -11,29 +11,21 @@ returns : tie.Need-returns
 unfolding mineMoved exactly
 returns c = simp (ne-eqb _ _ (c .if1 .taken))
 
-shared-slice-read-step-player : tie.Need-shared-slice-read-step-player
-shared-slice-read-step-player c = search needs
-
-step-player-requires : tie.Need-step-player-requires
-step-player-requires c κs = search needs
-
-mine-answered-requires : tie.Need-mine-answered-requires
-mine-answered-requires c κs = search needs
-
 returns-2 : tie.Need-returns-2
 unfolding mineMoved exactly
 returns-2 c =
     let k1 = c .before .before .before in
     let k2 = k1 .before .before .before .before .before in
     let a = k2 .args in
-    rw (eq-eqb _ _ (k1 .«if1» .left)) (c .«mine-answered» .ensures ∙ ap (answered (a .h) (a .args .now) (a .current .now) (a .state .now) (a .result .now) (a .p)) (c .before .«step-player» .ensures))
+    rw (eq-eqb _ _ (k1 .«if1» .left))
+    (c .«mine-answered» .ensures ∙ ap (answered (a .h) (a .args .now) (a .current .now) (a .state .now) (a .result .now) (a .p)) (c .before .«step-player» .ensures))
 
 pub moved-spec : {M : Type 1} → statement M
 moved-spec =
     tie.close
     (tie.spec
     returns
-    shared-slice-read-step-player
-    step-player-requires
-    mine-answered-requires
+    (λ c. search needs)
+    (λ c κs. search needs)
+    (λ c κs. search needs)
     returns-2)

@@ -17,30 +17,6 @@ returns : tie.Need-returns
 unfolding minePassed atLeast
 returns c = simp (lt-ltb _ _ (c .if1 .taken))
 
-word-requires : tie.Need-word-requires
-word-requires c κs = search needs
-
-cast-time : tie.Need-cast-time
-cast-time c = search needs
-
-sub-pass-marks : tie.Need-sub-pass-marks
-sub-pass-marks c = search needs
-
-part-pass-marks-start : tie.Need-part-pass-marks-start
-part-pass-marks-start c = search needs
-
-part-pass-marks-end : tie.Need-part-pass-marks-end
-part-pass-marks-end c = search needs
-
-pass-marks-requires : tie.Need-pass-marks-requires
-pass-marks-requires c κs = search needs
-
-number-requires : tie.Need-number-requires
-number-requires c κs = search needs
-
-mine-told-requires : tie.Need-mine-told-requires
-mine-told-requires c κs = search needs
-
 returns-2 : tie.Need-returns-2
 unfolding minePassed atLeast
 returns-2 c =
@@ -51,23 +27,26 @@ returns-2 c =
     let a = k4 .args in
     let w = k2 .«word» in
     let t = k1 .«pass-marks» in
-    let keys : t .result ≡ passAt (a .m) (drop MARK (a .args .now)) (w .result) (a .p .first) (a .p .second) = subst (λ (l : List ℕ). t .result ≡ passAt (a .m) l (w .result) (a .p .first) (a .p .second)) (rest-is MARK (a .args .now)) (t .ensures) in
+    let keys : t .result ≡ passAt (a .m) (drop MARK (a .args .now)) (w .result) (a .p .first) (a .p .second) = subst
+    (λ (l : List ℕ). t .result ≡ passAt (a .m) l (w .result) (a .p .first) (a .p .second)) (rest-is MARK (a .args .now)) (t .ensures) in
     rw (le-ltb _ _ (k3 .«if1» .left))
     (c .«mine-told» .ensures
-    ∙ ap (λ (n : ℕ). mineTold (a .h) (a .current .now) (a .state .now) (a .result .now) (t .result .passed .refusal) n (t .result .passed .game) (marksOf (t .result))) (c .before .«number» .ensures)
-    ∙ ap (turned (a .h) (a .args .now) (a .current .now) (a .state .now) (a .result .now)) (keys ∙ ap (λ (n : ℕ). passAt (a .m) (drop MARK (a .args .now)) n (a .p .first) (a .p .second)) (w .ensures .is)))
+    ∙ ap (λ (n : ℕ). mineTold (a .h) (a .current .now) (a .state .now) (a .result .now) (t .result .passed .refusal) n (t .result .passed .game) (marksOf (t .result)))
+    (c .before .«number» .ensures)
+    ∙ ap (turned (a .h) (a .args .now) (a .current .now) (a .state .now) (a .result .now)) (keys ∙ ap (λ (n : ℕ). passAt (a .m) (drop MARK (a .args .now)) n (a .p .first)
+    (a .p .second)) (w .ensures .is)))
 
 pub passed-spec : {M : Type 1} → statement M
 passed-spec =
     tie.close
     (tie.spec
     returns
-    word-requires
-    cast-time
-    sub-pass-marks
-    part-pass-marks-start
-    part-pass-marks-end
-    pass-marks-requires
-    number-requires
-    mine-told-requires
+    (λ c κs. search needs)
+    (λ c. search needs)
+    (λ c. search needs)
+    (λ c. search needs)
+    (λ c. search needs)
+    (λ c κs. search needs)
+    (λ c κs. search needs)
+    (λ c κs. search needs)
     returns-2)

@@ -7,33 +7,19 @@ use Rattle.trace_verdict.specs.Compare.{compared}
 use Rattle.trace_calls.proofs.shared.cutter_told.Statement.{statement}
 use Rattle.trace_calls.proofs.shared.cutter_told.Tie as tie
 
-slice-aggregate-put-cutter : tie.Need-slice-aggregate-put-cutter
-slice-aggregate-put-cutter c = search needs
-
-put-cutter-requires : tie.Need-put-cutter-requires
-put-cutter-requires c κs = search needs
-
-slice-aggregate-compared-with : tie.Need-slice-aggregate-compared-with
-slice-aggregate-compared-with c = search needs
-
-slice-aggregate-compared-with-2 : tie.Need-slice-aggregate-compared-with-2
-slice-aggregate-compared-with-2 c = search needs
-
-compared-with-requires : tie.Need-compared-with-requires
-compared-with-requires c κs = search needs
-
 returns : tie.Need-returns
 returns c =
     let a = c .before .before .before .before .before .before .before .before .before .args in
-    c .«compared-with» .ensures ∙ ap (λ (l : List ℕ). compared (a .h) (a .current .now) (a .state .now) (a .result .now) (a .refusal) (a .answer) l []) (c .before .before .before .before .«put-cutter» .ensures)
+    c .«compared-with» .ensures ∙ ap (λ (l : List ℕ). compared (a .h) (a .current .now) (a .state .now) (a .result .now) (a .refusal) (a .answer) l [])
+    (c .before .before .before .before .«put-cutter» .ensures)
 
 pub cutter-told-spec : {M : Type 1} → statement M
 cutter-told-spec =
     tie.close
     (tie.spec
-    slice-aggregate-put-cutter
-    put-cutter-requires
-    slice-aggregate-compared-with
-    slice-aggregate-compared-with-2
-    compared-with-requires
+    (λ c. search needs)
+    (λ c κs. search needs)
+    (λ c. search needs)
+    (λ c. search needs)
+    (λ c κs. search needs)
     returns)

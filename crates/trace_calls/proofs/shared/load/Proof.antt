@@ -12,17 +12,12 @@ returns : tie.Need-returns
 unfolding mineLoaded exactly
 returns c = simp (ne-eqb _ _ (c .if1 .taken))
 
-load-requires : tie.Need-load-requires
-load-requires c κs = search needs
-
-mine-told-requires : tie.Need-mine-told-requires
-mine-told-requires c κs = search needs
-
 returns-2 : tie.Need-returns-2
 unfolding mineLoaded exactly
 returns-2 c =
     let a = c .before .before .before .before .before .before .before .args in
-    rw (eq-eqb _ _ (c .before .before .«if1» .left)) (c .«mine-told» .ensures ∙ ap (λ (m : Mine). mineTold (a .h) (a .current .now) (a .state .now) (a .result .now) 0 0 m (a .p)) (c .before .«load» .ensures))
+    rw (eq-eqb _ _ (c .before .before .«if1» .left)) (c .«mine-told» .ensures ∙ ap (λ (m : Mine). mineTold (a .h) (a .current .now) (a .state .now) (a .result .now) 0 0 m
+    (a .p)) (c .before .«load» .ensures))
 
 pub load-spec : {M : Type 1} → statement M
-load-spec = tie.close (tie.spec returns load-requires mine-told-requires returns-2)
+load-spec = tie.close (tie.spec returns (λ c κs. search needs) (λ c κs. search needs) returns-2)

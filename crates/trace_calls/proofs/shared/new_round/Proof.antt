@@ -6,15 +6,6 @@ use Rattle.trace_calls.specs.Either.{begun, roundBegun}
 use Rattle.trace_calls.proofs.shared.new_round.Statement.{statement}
 use Rattle.trace_calls.proofs.shared.new_round.Tie as tie
 
-new-round-requires : tie.Need-new-round-requires
-new-round-requires c κs = search needs
-
-slice-aggregate-compared-with : tie.Need-slice-aggregate-compared-with
-slice-aggregate-compared-with c = search needs
-
-compared-with-requires : tie.Need-compared-with-requires
-compared-with-requires c κs = search needs
-
 returns : tie.Need-returns
 unfolding roundBegun
 returns c =
@@ -22,27 +13,28 @@ returns c =
     let k2 = k1 .before .before .before .before .before in
     let a = k2 .args in
     let n = k1 .«new-round» in
-    let e : c .«compared-with» .result ≡ begun (a .h) (a .draws .now) (a .current .now) (a .state .now) (a .result .now) (a .p) (n .result) = rw (ne-eqb _ _ (c .before .before .«if1» .taken)) (c .«compared-with» .ensures) in
+    let e : c .«compared-with» .result
+    ≡ begun (a .h) (a .draws .now) (a .current .now) (a .state .now) (a .result .now) (a .p) (n .result) = rw (ne-eqb _ _ (c .before .before .«if1» .taken))
+    (c .«compared-with» .ensures) in
     e ∙ ap (begun (a .h) (a .draws .now) (a .current .now) (a .state .now) (a .result .now) (a .p)) (n .ensures)
-
-cutter-told-requires : tie.Need-cutter-told-requires
-cutter-told-requires c κs = search needs
 
 returns-2 : tie.Need-returns-2
 unfolding roundBegun
 returns-2 c =
     let a = c .before .before .before .before .before .before .before .before .args in
     let n = c .before .before .before .«new-round» in
-    let e : c .«cutter-told» .result ≡ begun (a .h) (a .draws .now) (a .current .now) (a .state .now) (a .result .now) (a .p) (n .result) = rw (eq-eqb _ _ (c .before .«if1» .left)) (c .«cutter-told» .ensures) in
+    let e : c .«cutter-told» .result
+    ≡ begun (a .h) (a .draws .now) (a .current .now) (a .state .now) (a .result .now) (a .p) (n .result) = rw (eq-eqb _ _ (c .before .«if1» .left))
+    (c .«cutter-told» .ensures) in
     e ∙ ap (begun (a .h) (a .draws .now) (a .current .now) (a .state .now) (a .result .now) (a .p)) (n .ensures)
 
 pub new-round-spec : {M : Type 1} → statement M
 new-round-spec =
     tie.close
     (tie.spec
-    new-round-requires
-    slice-aggregate-compared-with
-    compared-with-requires
+    (λ c κs. search needs)
+    (λ c. search needs)
+    (λ c κs. search needs)
     returns
-    cutter-told-requires
+    (λ c κs. search needs)
     returns-2)

@@ -6,21 +6,6 @@ use Rattle.trace_calls.proofs.Numbered.{tested}
 use Rattle.trace_calls.proofs.shared.on_either.Statement.{statement}
 use Rattle.trace_calls.proofs.shared.on_either.Tie as tie
 
-load-requires : tie.Need-load-requires
-load-requires c κs = search needs
-
-mine-asked-requires : tie.Need-mine-asked-requires
-mine-asked-requires c κs = search needs
-
-new-round-requires : tie.Need-new-round-requires
-new-round-requires c κs = search needs
-
-mover-asked-requires : tie.Need-mover-asked-requires
-mover-asked-requires c κs = search needs
-
-page-requires : tie.Need-page-requires
-page-requires c κs = search needs
-
 returns : tie.Need-returns
 unfolding onEither
 returns c = simp (tested (c .before .match .keys1) 1) (c .«load» .ensures)
@@ -35,11 +20,13 @@ returns-3 c = simp (tested (c .before .match .keys3) 1, tested (c .before .match
 
 returns-4 : tie.Need-returns-4
 unfolding onEither
-returns-4 c = simp (tested (c .before .match .keys4) 1, tested (c .before .match .keys4) 7, tested (c .before .match .keys4) 17, tested (c .before .match .keys4) 26) (c .«mover-asked» .ensures)
+returns-4 c = simp (tested (c .before .match .keys4) 1, tested (c .before .match .keys4) 7, tested (c .before .match .keys4) 17, tested (c .before .match .keys4) 26)
+    (c .«mover-asked» .ensures)
 
 returns-5 : tie.Need-returns-5
 unfolding onEither
-returns-5 c = simp (tested (c .before .match .keys5) 1, tested (c .before .match .keys5) 7, tested (c .before .match .keys5) 17, tested (c .before .match .keys5) 26, tested (c .before .match .keys5) 33) (c .«page» .ensures)
+returns-5 c = simp (tested (c .before .match .keys5) 1, tested (c .before .match .keys5) 7, tested (c .before .match .keys5) 17, tested (c .before .match .keys5) 26,
+    tested (c .before .match .keys5) 33) (c .«page» .ensures)
 
 returns-6 : tie.Need-returns-6
 unfolding onEither
@@ -49,11 +36,11 @@ pub on-either-spec : {M : Type 1} → statement M
 on-either-spec =
     tie.close
     (tie.spec
-    load-requires
-    mine-asked-requires
-    new-round-requires
-    mover-asked-requires
-    page-requires
+    (λ c κs. search needs)
+    (λ c κs. search needs)
+    (λ c κs. search needs)
+    (λ c κs. search needs)
+    (λ c κs. search needs)
     returns
     returns-2
     returns-3

@@ -17,24 +17,6 @@ returns : tie.Need-returns
 unfolding pageTold atLeast
 returns c = simp (lt-ltb _ _ (c .if1 .taken))
 
-word-requires : tie.Need-word-requires
-word-requires c κs = search needs
-
-sub-page : tie.Need-sub-page
-sub-page c = search needs
-
-part-page-start : tie.Need-part-page-start
-part-page-start c = search needs
-
-part-page-end : tie.Need-part-page-end
-part-page-end c = search needs
-
-page-requires : tie.Need-page-requires
-page-requires c κs = search needs
-
-compared-with-requires : tie.Need-compared-with-requires
-compared-with-requires c κs = search needs
-
 returns-2 : tie.Need-returns-2
 unfolding pageTold atLeast
 returns-2 c =
@@ -46,17 +28,18 @@ returns-2 c =
     let w = k1 .«word» in
     let g = c .before .«page» in
     let part = subst (λ (x : List ℕ). g .result .now ≡ pageOf x (w .result)) (rest-is PLACE l) (g .ensures) in
-    rw (le-ltb _ _ (k2 .«if1» .left)) (c .«compared-with» .ensures ∙ ap (stays (a .h) (a .current .now) (a .state .now) (a .result .now) 0) (part ∙ ap (pageOf (drop PLACE l)) (w .ensures .is)))
+    rw (le-ltb _ _ (k2 .«if1» .left))
+    (c .«compared-with» .ensures ∙ ap (stays (a .h) (a .current .now) (a .state .now) (a .result .now) 0) (part ∙ ap (pageOf (drop PLACE l)) (w .ensures .is)))
 
 pub page-spec : {M : Type 1} → statement M
 page-spec =
     tie.close
     (tie.spec
     returns
-    word-requires
-    sub-page
-    part-page-start
-    part-page-end
-    page-requires
-    compared-with-requires
+    (λ c κs. search needs)
+    (λ c. search needs)
+    (λ c. search needs)
+    (λ c. search needs)
+    (λ c κs. search needs)
+    (λ c κs. search needs)
     returns-2)

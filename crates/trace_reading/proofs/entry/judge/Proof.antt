@@ -9,18 +9,9 @@ use Rattle.trace_reading.specs.Entry.{setTo, judged}
 use Rattle.trace_reading.proofs.entry.judge.Statement.{statement}
 use Rattle.trace_reading.proofs.entry.judge.Tie as tie
 
-set-requires : tie.Need-set-requires
-set-requires c κs = search needs
-
 returns : tie.Need-returns
 unfolding judged setTo
 returns c = rw (eq-eqb _ _ (c .before .if1 .taken)) (c .«set» .ensures)
-
-is-state-requires : tie.Need-is-state-requires
-is-state-requires c κs = search needs
-
-on-mine-requires : tie.Need-on-mine-requires
-on-mine-requires c κs = search needs
 
 returns-2 : tie.Need-returns-2
 unfolding judged
@@ -28,10 +19,12 @@ returns-2 c =
     let k1 = c .before .before .before in
     let k2 = k1 .before in
     let k3 = k2 .before .before .before .before .before .before in
-    simp (ne-eqb _ _ (k2 .«if1» .left), ap (λ (b : Bool). eqb (length (k3 .args .state .now)) 0 || b) (sym (k1 .«is-state» .ensures)) ∙ c .before .before .«if2» .taken, eq-eqb _ _ (c .before .«if3» .taken)) (c .«on-mine» .ensures)
-
-on-cutter-requires : tie.Need-on-cutter-requires
-on-cutter-requires c κs = search needs
+    simp (
+      ne-eqb _ _ (k2 .«if1» .left),
+      ap (λ (b : Bool). eqb (length (k3 .args .state .now)) 0 || b) (sym (k1 .«is-state» .ensures))
+          ∙ c .before .before .«if2» .taken,
+      eq-eqb _ _ (c .before .«if3» .taken),
+    ) (c .«on-mine» .ensures)
 
 returns-3 : tie.Need-returns-3
 unfolding judged
@@ -40,7 +33,13 @@ returns-3 c =
     let k2 = k1 .before in
     let k3 = k2 .before in
     let k4 = k3 .before .before .before .before .before .before in
-    simp (ne-eqb _ _ (k3 .«if1» .left), ap (λ (b : Bool). eqb (length (k4 .args .state .now)) 0 || b) (sym (k2 .«is-state» .ensures)) ∙ k1 .«if2» .taken, ne-eqb _ _ (c .before .before .«if3» .left), eq-eqb _ _ (c .before .«if4» .taken)) (c .«on-cutter» .ensures)
+    simp (
+      ne-eqb _ _ (k3 .«if1» .left),
+      ap (λ (b : Bool). eqb (length (k4 .args .state .now)) 0 || b) (sym (k2 .«is-state» .ensures))
+          ∙ k1 .«if2» .taken,
+      ne-eqb _ _ (c .before .before .«if3» .left),
+      eq-eqb _ _ (c .before .«if4» .taken),
+    ) (c .«on-cutter» .ensures)
 
 returns-4 : tie.Need-returns-4
 unfolding judged
@@ -48,7 +47,13 @@ returns-4 c =
     let k1 = c .before .before .before in
     let k2 = k1 .before in
     let k3 = k2 .before .before .before .before .before .before in
-    simp (ne-eqb _ _ (k2 .«if1» .left), ap (λ (b : Bool). eqb (length (k3 .args .state .now)) 0 || b) (sym (k1 .«is-state» .ensures)) ∙ c .before .before .«if2» .taken, ne-eqb _ _ (c .before .«if3» .left), ne-eqb _ _ (c .«if4» .left))
+    simp (
+      ne-eqb _ _ (k2 .«if1» .left),
+      ap (λ (b : Bool). eqb (length (k3 .args .state .now)) 0 || b) (sym (k1 .«is-state» .ensures))
+          ∙ c .before .before .«if2» .taken,
+      ne-eqb _ _ (c .before .«if3» .left),
+      ne-eqb _ _ (c .«if4» .left),
+    )
 
 returns-5 : tie.Need-returns-5
 unfolding judged
@@ -60,12 +65,12 @@ pub judge-spec : {M : Type 1} → statement M
 judge-spec =
     tie.close
     (tie.spec
-    set-requires
+    (λ c κs. search needs)
     returns
-    is-state-requires
-    on-mine-requires
+    (λ c κs. search needs)
+    (λ c κs. search needs)
     returns-2
-    on-cutter-requires
+    (λ c κs. search needs)
     returns-3
     returns-4
     returns-5)

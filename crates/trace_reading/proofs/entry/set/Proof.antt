@@ -8,20 +8,19 @@ use Rattle.trace_reading.specs.Entry.{setTo}
 use Rattle.trace_reading.proofs.entry.set.Statement.{statement}
 use Rattle.trace_reading.proofs.entry.set.Tie as tie
 
-is-state-requires : tie.Need-is-state-requires
-is-state-requires c κs = search needs
-
 returns : tie.Need-returns
 unfolding setTo
 returns c =
     let a = c .before .before .before .before .before .before .before .args in
-    rw (ap (λ (b : Bool). (eqb (a .h .refusal) 0 && eqb (a .h .answer) 0) && ((eqb (length (a .args .now)) 0 && eqb (length (a .result .now)) 0) && b)) (sym (c .before .«is-state» .ensures)) ∙ c .if1 .taken)
+    rw (ap (λ (b : Bool). (eqb (a .h .refusal) 0 && eqb (a .h .answer) 0) && ((eqb (length (a .args .now)) 0 && eqb (length (a .result .now)) 0) && b))
+    (sym (c .before .«is-state» .ensures)) ∙ c .if1 .taken)
 
 returns-2 : tie.Need-returns-2
 unfolding setTo
 returns-2 c =
     let a = c .before .before .before .before .before .before .before .args in
-    rw (ap (λ (b : Bool). (eqb (a .h .refusal) 0 && eqb (a .h .answer) 0) && ((eqb (length (a .args .now)) 0 && eqb (length (a .result .now)) 0) && b)) (sym (c .before .«is-state» .ensures)) ∙ c .if1 .left)
+    rw (ap (λ (b : Bool). (eqb (a .h .refusal) 0 && eqb (a .h .answer) 0) && ((eqb (length (a .args .now)) 0 && eqb (length (a .result .now)) 0) && b))
+    (sym (c .before .«is-state» .ensures)) ∙ c .if1 .left)
 
 pub set-spec : {M : Type 1} → statement M
-set-spec = tie.close (tie.spec is-state-requires returns returns-2)
+set-spec = tie.close (tie.spec (λ c κs. search needs) returns returns-2)

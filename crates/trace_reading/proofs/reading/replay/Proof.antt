@@ -29,16 +29,15 @@ turn-requires : tie.Need-turn-requires Inv-loop μ-loop
 turn-requires c κs = c .before .before .before .loop .inv
 
 sub-turns : tie.Need-sub-turns Inv-loop μ-loop
-sub-turns c = let k = c .before .before .before .before .before .before in omega (arith, ltb-true 0 (k .before .loop .turns) (and-right (k .before .loop .more) _ (k .loop-test .taken)))
+sub-turns c = let k = c .before .before .before .before .before .before in
+    omega (arith, ltb-true 0 (k .before .loop .turns) (and-right (k .before .loop .more) _ (k .loop-test .taken)))
 
 loop-less : tie.Need-loop-less Inv-loop μ-loop
-loop-less c = let k = c .before .before .before .before .before .before in omega (arith, ltb-true 0 (k .before .loop .turns) (and-right (k .before .loop .more) _ (k .loop-test .taken)))
+loop-less c = let k = c .before .before .before .before .before .before in
+    omega (arith, ltb-true 0 (k .before .loop .turns) (and-right (k .before .loop .more) _ (k .loop-test .taken)))
 
 loop-again : tie.Need-loop-again Inv-loop μ-loop
 loop-again c = c .before .before .before .turn .ensures
-
-say-verdict-requires : tie.Need-say-verdict-requires Inv-loop μ-loop
-say-verdict-requires c κs = search needs
 
 returns : tie.Need-returns Inv-loop μ-loop
 returns c = tt
@@ -56,5 +55,5 @@ replay-spec =
     sub-turns
     loop-less
     loop-again
-    say-verdict-requires
+    (λ c κs. search needs)
     returns)

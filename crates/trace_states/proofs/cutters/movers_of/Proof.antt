@@ -22,27 +22,6 @@ abbrev μ-loop : tie.MeasureT-loop
 loop-holds : tie.Need-loop-holds Inv-loop μ-loop
 loop-holds c = let a = c .before .args in (omega arith, refl, filled-none (λ (j : ℕ). moverAt (a .at + j * MOVER) (a .bytes .now)) [])
 
-mul-mover-of : tie.Need-mul-mover-of Inv-loop μ-loop
-mul-mover-of c = search needs
-
-add-mover-of : tie.Need-add-mover-of Inv-loop μ-loop
-add-mover-of c = search needs
-
-mover-of-requires : tie.Need-mover-of-requires Inv-loop μ-loop
-mover-of-requires c κs = search needs
-
-mul-enemies : tie.Need-mul-enemies Inv-loop μ-loop
-mul-enemies c = search needs
-
-array-set-from-enemies : tie.Need-array-set-from-enemies Inv-loop μ-loop
-array-set-from-enemies c = search needs
-
-add-i : tie.Need-add-i Inv-loop μ-loop
-add-i c = search needs
-
-loop-less : tie.Need-loop-less Inv-loop μ-loop
-loop-less c = search needs
-
 loop-again : tie.Need-loop-again Inv-loop μ-loop
 loop-again c =
     let s = c .before .before .loop in
@@ -67,12 +46,12 @@ movers-of-spec =
     Inv-loop
     μ-loop
     loop-holds
-    mul-mover-of
-    add-mover-of
-    mover-of-requires
-    mul-enemies
-    array-set-from-enemies
-    add-i
-    loop-less
+    (λ c. search needs)
+    (λ c. search needs)
+    (λ c κs. search needs)
+    (λ c. search needs)
+    (λ c. search needs)
+    (λ c. search needs)
+    (λ c. search needs)
     loop-again
     returns)

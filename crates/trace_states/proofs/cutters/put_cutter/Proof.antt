@@ -28,12 +28,6 @@ put-word-requires c κs =
     let k4 = k3 .before .before .before .before .before in
     omega (arith, k3 .«put-grid» .ensures .size, k2 .«put-player» .ensures .size, k1 .«put-movers» .ensures .size, k4 .pre)
 
-cast-put-pair : tie.Need-cast-put-pair
-cast-put-pair c = search needs
-
-cast-put-pair-2 : tie.Need-cast-put-pair-2
-cast-put-pair-2 c = search needs
-
 put-pair-requires : tie.Need-put-pair-requires
 put-pair-requires c κs =
     let k1 = c .before .before .before .before .before in
@@ -43,12 +37,6 @@ put-pair-requires c κs =
     let k5 = k4 .before .before .before .before .before in
     omega (arith, k4 .«put-grid» .ensures .size, k3 .«put-player» .ensures .size, k2 .«put-movers» .ensures .size, k1 .«put-word» .ensures .size, k5 .pre)
 
-cast-put-pair-3 : tie.Need-cast-put-pair-3
-cast-put-pair-3 c = search needs
-
-cast-put-pair-4 : tie.Need-cast-put-pair-4
-cast-put-pair-4 c = search needs
-
 put-pair-requires-2 : tie.Need-put-pair-requires-2
 put-pair-requires-2 c κs =
     let k1 = c .before .before .before .before .before in
@@ -57,7 +45,15 @@ put-pair-requires-2 c κs =
     let k4 = k3 .before .before .before .before in
     let k5 = k4 .before .before .before .before in
     let k6 = k5 .before .before .before .before .before in
-    omega (arith, k5 .«put-grid» .ensures .size, k4 .«put-player» .ensures .size, k3 .«put-movers» .ensures .size, k2 .«put-word» .ensures .size, k1 .«put-pair» .ensures .size, k6 .pre)
+    omega (
+      arith,
+      k5 .«put-grid» .ensures .size,
+      k4 .«put-player» .ensures .size,
+      k3 .«put-movers» .ensures .size,
+      k2 .«put-word» .ensures .size,
+      k1 .«put-pair» .ensures .size,
+      k6 .pre,
+    )
 
 put-pair-requires-3 : tie.Need-put-pair-requires-3
 put-pair-requires-3 c κs =
@@ -68,7 +64,16 @@ put-pair-requires-3 c κs =
     let k5 = k4 .before .before .before .before in
     let k6 = k5 .before .before .before .before in
     let k7 = k6 .before .before .before .before .before in
-    omega (arith, k6 .«put-grid» .ensures .size, k5 .«put-player» .ensures .size, k4 .«put-movers» .ensures .size, k3 .«put-word» .ensures .size, k2 .«put-pair» .ensures .size, k1 .«put-pair2» .ensures .size, k7 .pre)
+    omega (
+      arith,
+      k6 .«put-grid» .ensures .size,
+      k5 .«put-player» .ensures .size,
+      k4 .«put-movers» .ensures .size,
+      k3 .«put-word» .ensures .size,
+      k2 .«put-pair» .ensures .size,
+      k1 .«put-pair2» .ensures .size,
+      k7 .pre,
+    )
 
 same-length : tie.Need-same-length
 same-length c =
@@ -78,7 +83,8 @@ same-length c =
     let k4 = k3 .before .before .before .before in
     let k5 = k4 .before .before .before .before in
     let k6 = k5 .before .before .before .before in
-    c .before .before .«put-pair3» .ensures .size ∙ k1 .«put-pair2» .ensures .size ∙ k2 .«put-pair» .ensures .size ∙ k3 .«put-word» .ensures .size ∙ k4 .«put-movers» .ensures .size ∙ k5 .«put-player» .ensures .size ∙ k6 .«put-grid» .ensures .size
+    c .before .before .«put-pair3» .ensures .size ∙ k1 .«put-pair2» .ensures .size ∙ k2 .«put-pair» .ensures .size ∙ k3 .«put-word» .ensures .size
+    ∙ k4 .«put-movers» .ensures .size ∙ k5 .«put-player» .ensures .size ∙ k6 .«put-grid» .ensures .size
 
 returns : tie.Need-returns
 unfolding cutterBytes
@@ -90,7 +96,9 @@ returns c =
     let k5 = k4 .before .before .before .before in
     let k6 = k5 .before .before .before .before in
     let k7 = k6 .before .before .before .before .before in
-    lays-whole (k7 .pre) (lays-both (lays-both (lays-both (lays-both (lays-both (lays-both (k6 .«put-grid» .ensures) (k5 .«put-player» .ensures)) (k4 .«put-movers» .ensures)) (k3 .«put-word» .ensures)) (k2 .«put-pair» .ensures)) (k1 .«put-pair2» .ensures)) (c .before .before .«put-pair3» .ensures))
+    lays-whole (k7 .pre) (lays-both
+    (lays-both (lays-both (lays-both (lays-both (lays-both (k6 .«put-grid» .ensures) (k5 .«put-player» .ensures)) (k4 .«put-movers» .ensures))
+    (k3 .«put-word» .ensures)) (k2 .«put-pair» .ensures)) (k1 .«put-pair2» .ensures)) (c .before .before .«put-pair3» .ensures))
 
 pub put-cutter-spec : {M : Type 1} → statement M
 put-cutter-spec =
@@ -100,11 +108,11 @@ put-cutter-spec =
     put-player-requires
     put-movers-requires
     put-word-requires
-    cast-put-pair
-    cast-put-pair-2
+    (λ c. search needs)
+    (λ c. search needs)
     put-pair-requires
-    cast-put-pair-3
-    cast-put-pair-4
+    (λ c. search needs)
+    (λ c. search needs)
     put-pair-requires-2
     put-pair-requires-3
     same-length

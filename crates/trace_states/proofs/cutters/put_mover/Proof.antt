@@ -11,36 +11,6 @@ use Rattle.trace_words.proofs.Lays.{lays-both, lays-as}
 use Rattle.trace_states.proofs.cutters.put_mover.Statement.{statement}
 use Rattle.trace_states.proofs.cutters.put_mover.Tie as tie
 
-byte-of-requires : tie.Need-byte-of-requires
-byte-of-requires c κs = search needs
-
-byte-of-requires-2 : tie.Need-byte-of-requires-2
-byte-of-requires-2 c κs = search needs
-
-cast-put-pair : tie.Need-cast-put-pair
-cast-put-pair c = search needs
-
-cast-put-pair-2 : tie.Need-cast-put-pair-2
-cast-put-pair-2 c = search needs
-
-put-pair-requires : tie.Need-put-pair-requires
-put-pair-requires c κs = search needs
-
-cast-put-pair-3 : tie.Need-cast-put-pair-3
-cast-put-pair-3 c = search needs
-
-cast-put-pair-4 : tie.Need-cast-put-pair-4
-cast-put-pair-4 c = search needs
-
-add-put-pair : tie.Need-add-put-pair
-add-put-pair c = search needs
-
-put-pair-requires-2 : tie.Need-put-pair-requires-2
-put-pair-requires-2 c κs = search needs
-
-same-length : tie.Need-same-length
-same-length c = search needs
-
 returns : tie.Need-returns
 returns c =
     let e = c .before .before .before .before .before .before .before .before .before .before .before .before .before .before .before .args .e in
@@ -49,20 +19,21 @@ returns c =
     let k1 = c .before .before .before .before .before .before in
     let k2 = k1 .before .before .before .before in
     let k3 = k2 .before .before in
-    lays-as (ap₂ (λ (a b : ℕ). pairIn 1 (e .x) (e .y) ++ pairIn 1 a b) (k3 .«byte-of» .ensures ∙ ap byteOf (toZ-ofZ fx)) (k2 .«byte-of2» .ensures ∙ ap byteOf (toZ-ofZ fy))) refl (lays-both (k1 .«put-pair» .ensures) (c .before .before .«put-pair2» .ensures))
+    lays-as (ap₂ (λ (a b : ℕ). pairIn 1 (e .x) (e .y) ++ pairIn 1 a b) (k3 .«byte-of» .ensures ∙ ap byteOf (toZ-ofZ fx))
+    (k2 .«byte-of2» .ensures ∙ ap byteOf (toZ-ofZ fy))) refl (lays-both (k1 .«put-pair» .ensures) (c .before .before .«put-pair2» .ensures))
 
 pub put-mover-spec : {M : Type 1} → statement M
 put-mover-spec =
     tie.close
     (tie.spec
-    byte-of-requires
-    byte-of-requires-2
-    cast-put-pair
-    cast-put-pair-2
-    put-pair-requires
-    cast-put-pair-3
-    cast-put-pair-4
-    add-put-pair
-    put-pair-requires-2
-    same-length
+    (λ c κs. search needs)
+    (λ c κs. search needs)
+    (λ c. search needs)
+    (λ c. search needs)
+    (λ c κs. search needs)
+    (λ c. search needs)
+    (λ c. search needs)
+    (λ c. search needs)
+    (λ c κs. search needs)
+    (λ c. search needs)
     returns)

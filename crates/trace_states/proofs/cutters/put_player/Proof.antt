@@ -12,64 +12,36 @@ use Rattle.trace_words.proofs.Lays.{lays-both, lays-as}
 use Rattle.trace_states.proofs.cutters.put_player.Statement.{statement}
 use Rattle.trace_states.proofs.cutters.put_player.Tie as tie
 
-byte-of-requires : tie.Need-byte-of-requires
-byte-of-requires c κs = search needs
-
-byte-of-requires-2 : tie.Need-byte-of-requires-2
-byte-of-requires-2 c κs = search needs
-
-put-pair-requires : tie.Need-put-pair-requires
-put-pair-requires c κs = search needs
-
-cast-put-pair : tie.Need-cast-put-pair
-cast-put-pair c = search needs
-
-cast-put-pair-2 : tie.Need-cast-put-pair-2
-cast-put-pair-2 c = search needs
-
-add-put-pair : tie.Need-add-put-pair
-add-put-pair c = search needs
-
-put-pair-requires-2 : tie.Need-put-pair-requires-2
-put-pair-requires-2 c κs = search needs
-
-cast-put-word : tie.Need-cast-put-word
-cast-put-word c = search needs
-
-add-put-word : tie.Need-add-put-word
-add-put-word c = search needs
-
-put-word-requires : tie.Need-put-word-requires
-put-word-requires c κs = search needs
-
-same-length : tie.Need-same-length
-same-length c = search needs
-
 returns : tie.Need-returns
 returns c =
     let p = c .before .before .before .before .before .before .before .before .before .before .before .before .before .before .before .before .before .before .args .c in
     let fx : SFits w8 (p .dx) = search needs in
-    let fy : SFits w8 (p .dy) = search (needs, c .before .before .before .before .before .before .before .before .before .before .before .before .before .before .before .before .struct-told .given .1 .1 .1 .1 .0) in
+    let fy : SFits w8 (p .dy) = search (
+      needs,
+      c .before .before .before .before .before .before .before .before .before .before .before .before .before .before .before .before .struct-told .given .1
+          .1 .1 .1 .0,
+    ) in
     let k1 = c .before .before .before .before .before .before .before in
     let k2 = k1 .before .before .before .before in
     let k3 = k2 .before .before in
     let k4 = k3 .before .before in
-    lays-as (ap₂ (λ (a b : ℕ). pairIn PLACE (p .px) (p .py) ++ pairIn 1 a b ++ bytesIn 1 (bit (p .trailing))) (k4 .«byte-of» .ensures ∙ ap byteOf (toZ-ofZ fx)) (k3 .«byte-of2» .ensures ∙ ap byteOf (toZ-ofZ fy))) refl
+    lays-as (ap₂ (λ (a b : ℕ). pairIn PLACE (p .px) (p .py) ++ pairIn 1 a b ++ bytesIn 1 (bit (p .trailing))) (k4 .«byte-of» .ensures ∙ ap byteOf (toZ-ofZ fx))
+    (k3 .«byte-of2» .ensures ∙ ap byteOf (toZ-ofZ fy))) refl
     (lays-both (lays-both (k2 .«put-pair» .ensures) (k1 .«put-pair2» .ensures)) (c .before .before .«put-word» .ensures))
 
 pub put-player-spec : {M : Type 1} → statement M
 put-player-spec =
     tie.close
     (tie.spec
-    byte-of-requires
-    byte-of-requires-2
-    put-pair-requires
-    cast-put-pair
-    cast-put-pair-2
-    add-put-pair
-    put-pair-requires-2
-    cast-put-word
-    add-put-word
-    put-word-requires
-    same-length
+    (λ c κs. search needs)
+    (λ c κs. search needs)
+    (λ c κs. search needs)
+    (λ c. search needs)
+    (λ c. search needs)
+    (λ c. search needs)
+    (λ c κs. search needs)
+    (λ c. search needs)
+    (λ c. search needs)
+    (λ c κs. search needs)
+    (λ c. search needs)
     returns)

@@ -22,27 +22,6 @@ abbrev μ-loop : tie.MeasureT-loop
 loop-holds : tie.Need-loop-holds Inv-loop μ-loop
 loop-holds c = let a = c .before .args in (omega arith, refl, filled-none (λ (j : ℕ). enemyAt (a .at + j * ENEMY) (a .bytes .now)) [])
 
-mul-enemy-of : tie.Need-mul-enemy-of Inv-loop μ-loop
-mul-enemy-of c = search needs
-
-add-enemy-of : tie.Need-add-enemy-of Inv-loop μ-loop
-add-enemy-of c = search needs
-
-enemy-of-requires : tie.Need-enemy-of-requires Inv-loop μ-loop
-enemy-of-requires c κs = search needs
-
-mul-enemies : tie.Need-mul-enemies Inv-loop μ-loop
-mul-enemies c = search needs
-
-array-set-from-enemies : tie.Need-array-set-from-enemies Inv-loop μ-loop
-array-set-from-enemies c = search needs
-
-add-i : tie.Need-add-i Inv-loop μ-loop
-add-i c = search needs
-
-loop-less : tie.Need-loop-less Inv-loop μ-loop
-loop-less c = search needs
-
 loop-again : tie.Need-loop-again Inv-loop μ-loop
 loop-again c =
     let s = c .before .before .loop in
@@ -67,12 +46,12 @@ enemies-of-spec =
     Inv-loop
     μ-loop
     loop-holds
-    mul-enemy-of
-    add-enemy-of
-    enemy-of-requires
-    mul-enemies
-    array-set-from-enemies
-    add-i
-    loop-less
+    (λ c. search needs)
+    (λ c. search needs)
+    (λ c κs. search needs)
+    (λ c. search needs)
+    (λ c. search needs)
+    (λ c. search needs)
+    (λ c. search needs)
     loop-again
     returns)

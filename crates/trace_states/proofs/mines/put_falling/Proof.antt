@@ -24,12 +24,6 @@ abbrev μ-loop : tie.MeasureT-loop
 loop-holds : tie.Need-loop-holds Inv-loop μ-loop
 loop-holds c = (omega arith, lays-none (c .args .at) (c .args .out .now))
 
-array-read-out : tie.Need-array-read-out Inv-loop μ-loop
-array-read-out c = search needs
-
-cast-out : tie.Need-cast-out Inv-loop μ-loop
-cast-out c = search needs
-
 add-out : tie.Need-add-out Inv-loop μ-loop
 add-out c = omega arith
 
@@ -67,8 +61,8 @@ put-falling-spec =
     Inv-loop
     μ-loop
     loop-holds
-    array-read-out
-    cast-out
+    (λ c. search needs)
+    (λ c. search needs)
     add-out
     slice-write-out
     add-i

@@ -7,15 +7,6 @@ use Rattle.trace_words.proofs.Lays.{lays-as}
 use Rattle.trace_states.proofs.mines.put_grid.Statement.{statement}
 use Rattle.trace_states.proofs.mines.put_grid.Tie as tie
 
-slice-aggregate-put-cells : tie.Need-slice-aggregate-put-cells
-slice-aggregate-put-cells c = search needs
-
-put-cells-requires : tie.Need-put-cells-requires
-put-cells-requires c κs = search needs
-
-same-length : tie.Need-same-length
-same-length c = search needs
-
 returns : tie.Need-returns
 returns c =
     let z : length (c .before .before .before .before .before .before .args .t1) ≡ AREA = search needs in
@@ -23,4 +14,4 @@ returns c =
 
 pub put-grid-spec : {M : Type 1} → statement M
 put-grid-spec =
-    tie.close (tie.spec slice-aggregate-put-cells put-cells-requires same-length returns)
+    tie.close (tie.spec (λ c. search needs) (λ c κs. search needs) (λ c. search needs) returns)

@@ -37,12 +37,6 @@ put-word-requires c κs =
     let k5 = k4 .before .before .before .before .before .before in
     omega (arith, k4 .«put-grid» .ensures .size, k3 .«put-falling» .ensures .size, k2 .«put-pair» .ensures .size, k1 .«put-enemies» .ensures .size, k5 .pre)
 
-cast-put-pair : tie.Need-cast-put-pair
-cast-put-pair c = search needs
-
-cast-put-pair-2 : tie.Need-cast-put-pair-2
-cast-put-pair-2 c = search needs
-
 put-pair-requires-2 : tie.Need-put-pair-requires-2
 put-pair-requires-2 c κs =
     let k1 = c .before .before .before .before .before in
@@ -51,13 +45,15 @@ put-pair-requires-2 c κs =
     let k4 = k3 .before .before .before .before in
     let k5 = k4 .before .before .before .before in
     let k6 = k5 .before .before .before .before .before .before in
-    omega (arith, k5 .«put-grid» .ensures .size, k4 .«put-falling» .ensures .size, k3 .«put-pair» .ensures .size, k2 .«put-enemies» .ensures .size, k1 .«put-word» .ensures .size, k6 .pre)
-
-cast-put-pair-3 : tie.Need-cast-put-pair-3
-cast-put-pair-3 c = search needs
-
-cast-put-pair-4 : tie.Need-cast-put-pair-4
-cast-put-pair-4 c = search needs
+    omega (
+      arith,
+      k5 .«put-grid» .ensures .size,
+      k4 .«put-falling» .ensures .size,
+      k3 .«put-pair» .ensures .size,
+      k2 .«put-enemies» .ensures .size,
+      k1 .«put-word» .ensures .size,
+      k6 .pre,
+    )
 
 put-pair-requires-3 : tie.Need-put-pair-requires-3
 put-pair-requires-3 c κs =
@@ -68,7 +64,16 @@ put-pair-requires-3 c κs =
     let k5 = k4 .before .before .before .before in
     let k6 = k5 .before .before .before .before in
     let k7 = k6 .before .before .before .before .before .before in
-    omega (arith, k6 .«put-grid» .ensures .size, k5 .«put-falling» .ensures .size, k4 .«put-pair» .ensures .size, k3 .«put-enemies» .ensures .size, k2 .«put-word» .ensures .size, k1 .«put-pair2» .ensures .size, k7 .pre)
+    omega (
+      arith,
+      k6 .«put-grid» .ensures .size,
+      k5 .«put-falling» .ensures .size,
+      k4 .«put-pair» .ensures .size,
+      k3 .«put-enemies» .ensures .size,
+      k2 .«put-word» .ensures .size,
+      k1 .«put-pair2» .ensures .size,
+      k7 .pre,
+    )
 
 put-pair-requires-4 : tie.Need-put-pair-requires-4
 put-pair-requires-4 c κs =
@@ -80,7 +85,17 @@ put-pair-requires-4 c κs =
     let k6 = k5 .before .before .before .before in
     let k7 = k6 .before .before .before .before in
     let k8 = k7 .before .before .before .before .before .before in
-    omega (arith, k7 .«put-grid» .ensures .size, k6 .«put-falling» .ensures .size, k5 .«put-pair» .ensures .size, k4 .«put-enemies» .ensures .size, k3 .«put-word» .ensures .size, k2 .«put-pair2» .ensures .size, k1 .«put-pair3» .ensures .size, k8 .pre)
+    omega (
+      arith,
+      k7 .«put-grid» .ensures .size,
+      k6 .«put-falling» .ensures .size,
+      k5 .«put-pair» .ensures .size,
+      k4 .«put-enemies» .ensures .size,
+      k3 .«put-word» .ensures .size,
+      k2 .«put-pair2» .ensures .size,
+      k1 .«put-pair3» .ensures .size,
+      k8 .pre,
+    )
 
 same-length : tie.Need-same-length
 same-length c =
@@ -91,7 +106,8 @@ same-length c =
     let k5 = k4 .before .before .before .before in
     let k6 = k5 .before .before .before .before in
     let k7 = k6 .before .before .before .before in
-    c .before .before .«put-pair4» .ensures .size ∙ k1 .«put-pair3» .ensures .size ∙ k2 .«put-pair2» .ensures .size ∙ k3 .«put-word» .ensures .size ∙ k4 .«put-enemies» .ensures .size ∙ k5 .«put-pair» .ensures .size ∙ k6 .«put-falling» .ensures .size ∙ k7 .«put-grid» .ensures .size
+    c .before .before .«put-pair4» .ensures .size ∙ k1 .«put-pair3» .ensures .size ∙ k2 .«put-pair2» .ensures .size ∙ k3 .«put-word» .ensures .size
+    ∙ k4 .«put-enemies» .ensures .size ∙ k5 .«put-pair» .ensures .size ∙ k6 .«put-falling» .ensures .size ∙ k7 .«put-grid» .ensures .size
 
 returns : tie.Need-returns
 unfolding mineBytes
@@ -104,7 +120,10 @@ returns c =
     let k6 = k5 .before .before .before .before in
     let k7 = k6 .before .before .before .before in
     let k8 = k7 .before .before .before .before .before .before in
-    lays-whole (k8 .pre) (lays-both (lays-both (lays-both (lays-both (lays-both (lays-both (lays-both (k7 .«put-grid» .ensures) (k6 .«put-falling» .ensures)) (k5 .«put-pair» .ensures)) (k4 .«put-enemies» .ensures)) (k3 .«put-word» .ensures)) (k2 .«put-pair2» .ensures)) (k1 .«put-pair3» .ensures)) (c .before .before .«put-pair4» .ensures))
+    lays-whole (k8 .pre) (lays-both
+    (lays-both (lays-both (lays-both
+    (lays-both (lays-both (lays-both (k7 .«put-grid» .ensures) (k6 .«put-falling» .ensures)) (k5 .«put-pair» .ensures)) (k4 .«put-enemies» .ensures))
+    (k3 .«put-word» .ensures)) (k2 .«put-pair2» .ensures)) (k1 .«put-pair3» .ensures)) (c .before .before .«put-pair4» .ensures))
 
 pub put-mine-spec : {M : Type 1} → statement M
 put-mine-spec =
@@ -115,11 +134,11 @@ put-mine-spec =
     put-pair-requires
     put-enemies-requires
     put-word-requires
-    cast-put-pair
-    cast-put-pair-2
+    (λ c. search needs)
+    (λ c. search needs)
     put-pair-requires-2
-    cast-put-pair-3
-    cast-put-pair-4
+    (λ c. search needs)
+    (λ c. search needs)
     put-pair-requires-3
     put-pair-requires-4
     same-length

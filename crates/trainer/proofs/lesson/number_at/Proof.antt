@@ -9,15 +9,6 @@ use Rattle.cutter_ground.specs.Cells.{CN}
 use Rattle.trainer.proofs.lesson.number_at.Statement.{statement}
 use Rattle.trainer.proofs.lesson.number_at.Tie as tie
 
-mul-result : tie.Need-mul-result
-mul-result c = search needs
-
-element-copy-out-result : tie.Need-element-copy-out-result
-element-copy-out-result c = search needs
-
-cast-result : tie.Need-cast-result
-cast-result c = search needs
-
 returns : tie.Need-returns
 returns c = getD-default (now (c .before .before .args .nums)) (c .before .before .args .at) 0 CN (omega (arith, c .before .if1, c .before .before .pre))
 
@@ -25,4 +16,4 @@ returns-2 : tie.Need-returns-2
 returns-2 c = sym (List·getD-eq-default (now (c .before .args .nums)) CN {n = c .before .args .at} (omega (arith, c .if1, c .before .pre)))
 
 pub number-at-spec : {M : Type 1} → statement M
-number-at-spec = tie.close (tie.spec mul-result element-copy-out-result cast-result returns returns-2)
+number-at-spec = tie.close (tie.spec (λ c. search needs) (λ c. search needs) (λ c. search needs) returns returns-2)

@@ -9,9 +9,6 @@ use borrow.Author.Needs.{needs}
 use Rattle.trainer.proofs.lesson.tell_closing.Statement.{statement}
 use Rattle.trainer.proofs.lesson.tell_closing.Tie as tie
 
-claim-line-requires : tie.Need-claim-line-requires
-claim-line-requires c κs = search needs
-
 tell-sweeps-requires : tie.Need-tell-sweeps-requires
 tell-sweeps-requires c κs =
     let a = c .before .before in
@@ -22,9 +19,6 @@ tell-sweeps-requires c κs =
 tell-regions-requires : tie.Need-tell-regions-requires
 tell-regions-requires c κs = let t = c .before .before .before .before in (settled-right (tell-sweeps-requires (t .before) κs .cells) (t .tell-sweeps .ensures) .len, search needs)
 
-returns : tie.Need-returns
-returns c = search needs
-
 pub tell-closing-spec : {M : Type 1} → statement M
 tell-closing-spec =
-    tie.close (tie.spec claim-line-requires tell-sweeps-requires tell-regions-requires returns)
+    tie.close (tie.spec (λ c κs. search needs) tell-sweeps-requires tell-regions-requires (λ c. search needs))

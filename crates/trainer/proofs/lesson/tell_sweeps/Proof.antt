@@ -33,9 +33,6 @@ numbers-left-requires c κs =
     let s = settling-more (c .before .before .before .before .loop .inv .0) (c .before .sweep-once .ensures) in
     record { cells = s .cells; swept = s .reached }
 
-tell-sweep-requires : tie.Need-tell-sweep-requires Inv-loop μ-loop
-tell-sweep-requires c κs = search needs
-
 loop-less : tie.Need-loop-less Inv-loop μ-loop
 loop-less c = omega arith
 
@@ -60,7 +57,7 @@ tell-sweeps-spec =
     sweep-once-requires
     add-k
     numbers-left-requires
-    tell-sweep-requires
+    (λ c κs. search needs)
     loop-less
     loop-again
     returns)
