@@ -8,7 +8,7 @@ use lib.ListN.{replicate}
 use Rattle.refusal.specs.Refusal.{NONE, COMMAND, DRAWS, unless, _then_, refusedOr}
 use Rattle.cutter_ground.specs.Cells.{CN, CB-BLACK, INNER}
 use Rattle.cutter_state.specs.declared.Cutter.{Cutter}
-use Rattle.cutter_state.specs.Change.{withLevel, withLives}
+use Rattle.cutter_state.specs.Change.{withLevel, withLives, stateOf}
 use Rattle.cutter_state.specs.WellFormed.{MAX-LIVES, refusalOf}
 use Rattle.cutter_rules.specs.Level.{creaturesOf, drawsOk, freshLevel}
 use Rattle.cutter_rules.specs.Step.{directed, stepped, respawned}
@@ -30,21 +30,7 @@ answered c = record { refusal = NONE; game = c }
 
 -- a call that gets no state gives zeros and false flags in its place
 unfoldable pub zeros : Cutter
-zeros =
-    record {
-      grid = replicate CN CB-BLACK;
-      px = 0;
-      py = 0;
-      dx = pos 0;
-      dy = pos 0;
-      trailing = false;
-      enemies = slots [];
-      count = 0;
-      level = 0;
-      lives = 0;
-      dead = false;
-      «won_level» = false;
-    }
+zeros = stateOf (replicate CN CB-BLACK) 0 0 (pos 0) (pos 0) false (slots []) 0 0 0 false false
 
 -- ---- new round: level 1, 3 lives, 4 draws
 

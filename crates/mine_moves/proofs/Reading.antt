@@ -12,8 +12,8 @@ use Rattle.laws.proofs.Folds.{across-turn, across-end}
 use Rattle.mine_state.specs.declared.Mine.{Mine}
 use Rattle.mine_state.specs.declared.Enemy.{Enemy}
 use Rattle.mine_state.specs.State.{W, AREA, isCoin}
-use Rattle.mine_state.specs.Change.{withGrid, withPlayer, withCreatures}
-use Rattle.mine_rules.specs.Load.{tileOf, withOneMore, settled, readAt, unread, quarters, withNeeded, asking, readFrom, mineOf}
+use Rattle.mine_state.specs.Change.{withGrid, withPlayer, withCreatures, withNeeded}
+use Rattle.mine_rules.specs.Load.{tileOf, withOneMore, settled, readAt, unread, quarters, asking, readFrom, mineOf}
 
 -- the state so far, of which the reading changes these parts
 abbrev pub soFar : List ℕ → ℕ → ℕ → List Enemy → ℕ → Mine

@@ -10,7 +10,7 @@ use lib.ListN.{getD, set, replicate}
 use Rattle.laws.specs.Lists.{count, across}
 use Rattle.mine_state.specs.declared.Mine.{Mine}
 use Rattle.mine_state.specs.State.{W, AREA, MAX-ENEMIES, EMPTY, DIRT, WALL, BOULDER, COIN, EXIT, isCoin, blankSlot}
-use Rattle.mine_state.specs.Change.{withGrid, withPlayer, withCreatures}
+use Rattle.mine_state.specs.Change.{withGrid, withPlayer, withCreatures, stateOf, withNeeded}
 use Rattle.controls.specs.Keys.{RIGHT}
 
 -- the tile of a character; player and creatures stand on empty cells
@@ -44,14 +44,11 @@ readAt text m i =
 
 -- nothing read yet
 abbrev pub unread : Mine
-unread = record { grid = replicate AREA WALL; falling = replicate AREA false; px = 1; py = 1; enemies = replicate MAX-ENEMIES blankSlot; count = 0; coins = 0; needed = 0; dead = false; won = false }
+unread = stateOf (replicate AREA WALL) (replicate AREA false) 1 1 (replicate MAX-ENEMIES blankSlot) 0 0 0 false false
 
 -- three quarters of the coins, and one at least
 abbrev pub quarters : ℕ → ℕ
 quarters n = cond (eqb (n * 3 / 4) 0) 1 (n * 3 / 4)
-
-abbrev pub withNeeded : Mine → ℕ → Mine
-withNeeded m n = record { grid = m .grid; falling = m .falling; px = m .px; py = m .py; enemies = m .enemies; count = m .count; coins = m .coins; needed = n; dead = m .dead; won = m .won }
 
 abbrev pub asking : Mine → Mine
 asking m = withNeeded m (quarters (count isCoin (m .grid)))

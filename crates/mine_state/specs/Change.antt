@@ -7,27 +7,46 @@ use Rattle.mine_state.specs.declared.Mine.{Mine}
 use Rattle.mine_state.specs.declared.Enemy.{Enemy}
 use Rattle.mine_state.specs.State.{EMPTY, place}
 
+-- a state by its parts
+abbrev pub stateOf : List ℕ → List Bool → ℕ → ℕ → List Enemy → ℕ → ℕ → ℕ → Bool → Bool → Mine
+stateOf g f px py es n coins needed dead won =
+    record {
+      grid = g;
+      falling = f;
+      px = px;
+      py = py;
+      enemies = es;
+      count = n;
+      coins = coins;
+      needed = needed;
+      dead = dead;
+      won = won;
+    }
+
 module _ (m : Mine) where
   abbrev pub withGrid : List ℕ → Mine
-  withGrid g = record { grid = g; falling = m .falling; px = m .px; py = m .py; enemies = m .enemies; count = m .count; coins = m .coins; needed = m .needed; dead = m .dead; won = m .won }
+  withGrid g = stateOf g (m .falling) (m .px) (m .py) (m .enemies) (m .count) (m .coins) (m .needed) (m .dead) (m .won)
 
   abbrev pub withMarks : List Bool → Mine
-  withMarks f = record { grid = m .grid; falling = f; px = m .px; py = m .py; enemies = m .enemies; count = m .count; coins = m .coins; needed = m .needed; dead = m .dead; won = m .won }
+  withMarks f = stateOf (m .grid) f (m .px) (m .py) (m .enemies) (m .count) (m .coins) (m .needed) (m .dead) (m .won)
 
   abbrev pub withPlayer : ℕ → ℕ → Mine
-  withPlayer x y = record { grid = m .grid; falling = m .falling; px = x; py = y; enemies = m .enemies; count = m .count; coins = m .coins; needed = m .needed; dead = m .dead; won = m .won }
+  withPlayer x y = stateOf (m .grid) (m .falling) x y (m .enemies) (m .count) (m .coins) (m .needed) (m .dead) (m .won)
 
   abbrev pub withCreatures : List Enemy → ℕ → Mine
-  withCreatures es n = record { grid = m .grid; falling = m .falling; px = m .px; py = m .py; enemies = es; count = n; coins = m .coins; needed = m .needed; dead = m .dead; won = m .won }
+  withCreatures es n = stateOf (m .grid) (m .falling) (m .px) (m .py) es n (m .coins) (m .needed) (m .dead) (m .won)
 
   abbrev pub withCoins : ℕ → Mine
-  withCoins n = record { grid = m .grid; falling = m .falling; px = m .px; py = m .py; enemies = m .enemies; count = m .count; coins = n; needed = m .needed; dead = m .dead; won = m .won }
+  withCoins n = stateOf (m .grid) (m .falling) (m .px) (m .py) (m .enemies) (m .count) n (m .needed) (m .dead) (m .won)
+
+  abbrev pub withNeeded : ℕ → Mine
+  withNeeded n = stateOf (m .grid) (m .falling) (m .px) (m .py) (m .enemies) (m .count) (m .coins) n (m .dead) (m .won)
 
   abbrev pub killed : Mine
-  killed = record { grid = m .grid; falling = m .falling; px = m .px; py = m .py; enemies = m .enemies; count = m .count; coins = m .coins; needed = m .needed; dead = true; won = m .won }
+  killed = stateOf (m .grid) (m .falling) (m .px) (m .py) (m .enemies) (m .count) (m .coins) (m .needed) true (m .won)
 
   abbrev pub winner : Mine
-  winner = record { grid = m .grid; falling = m .falling; px = m .px; py = m .py; enemies = m .enemies; count = m .count; coins = m .coins; needed = m .needed; dead = m .dead; won = true }
+  winner = stateOf (m .grid) (m .falling) (m .px) (m .py) (m .enemies) (m .count) (m .coins) (m .needed) (m .dead) true
 
   -- the cell (x, y) holds the code t
   abbrev pub withCell : ℕ → ℕ → ℕ → Mine
