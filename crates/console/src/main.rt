@@ -6,7 +6,7 @@
 mod live;
 mod scripted;
 
-use console_screens::same;
+use check::same;
 use console_turns::MOST_DRAWS;
 use libc::STDERR_FILENO;
 

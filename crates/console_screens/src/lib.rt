@@ -7,6 +7,5 @@ pub use screens::begin;
 pub use screens::cutter_screen;
 pub use screens::mine_screen;
 pub use screens::refresh;
-pub use screens::same;
 pub use screens::show;
 pub use screens::within;

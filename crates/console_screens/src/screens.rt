@@ -1,5 +1,6 @@
 // What is shown: a head line above the frame.
 use crate::heads::HEAD;
+use check::same;
 use console_turns::CutterPlay;
 use console_turns::MinePlay;
 use frame::FRAME_LEN;
@@ -45,20 +46,6 @@ pub fn within(n: usize, buf: &[u8]) -> usize
         return n;
     }
     buf.len()
-}
-
-pub fn same(a: &[u8], b: &[u8]) -> bool {
-    if a.len() != b.len() {
-        return false;
-    }
-    let mut i: usize = 0;
-    while i < a.len() {
-        if a[i] != b[i] {
-            return false;
-        }
-        i += 1;
-    }
-    true
 }
 
 // The head line and the frame, as they stand.

@@ -7,21 +7,20 @@ use Rattle.console_screens.proofs.heads.mine_head.Statement.{statement}
 use Rattle.console_screens.proofs.heads.mine_head.Tie as tie
 
 put-field-requires-2 : tie.Need-put-field-requires-2
-put-field-requires-2 c κs = omega (arith, c .before .before .before .before .put-field .ensures .short, c .before .before .before .before .put-field .ensures .puts .size)
+put-field-requires-2 c κs = let one = c .before .before .before .before in omega (arith, one .put-field .ensures .short, one .put-field .ensures .puts .size)
 
 put-state-requires : tie.Need-put-state-requires
-put-state-requires c κs = omega (
-  arith,
-  c .before .before .before .before .before .before .before .before .put-field .ensures .short,
-  c .before .before .before .before .before .before .before .before .put-field .ensures .puts .size,
-  c .before .before .before .put-field2 .ensures .short,
-  c .before .before .before .put-field2 .ensures .puts .size,
-)
+put-state-requires c κs =
+    let two = c .before .before .before in
+    let one = two .before .before .before .before .before in
+    omega (arith, one .put-field .ensures .short, one .put-field .ensures .puts .size, two .put-field2 .ensures .short, two .put-field2 .ensures .puts .size)
 
 returns : tie.Need-returns
 unfolding mineHead
-returns c = puts-both (c .before .before .before .before .before .before .before .before .before .before .before .put-field .ensures .puts)
-    (puts-both (c .before .before .before .before .before .before .put-field2 .ensures .puts) (c .before .before .put-state .ensures))
+returns c =
+    let two = c .before .before .before .before .before .before in
+    let one = two .before .before .before .before .before in
+    puts-both (one .put-field .ensures .puts) (puts-both (two .put-field2 .ensures .puts) (c .before .before .put-state .ensures))
 
 pub mine-head-spec : {M : Type 1} → statement M
 mine-head-spec =
