@@ -44,8 +44,18 @@ impl Trace {
         outcome
     }
 
-    /// Makes the last step, which began at this state, by sweeps as well.
-    pub fn again_by_sweeps(&mut self, before: State) {
+    /// The same; a step is made by sweeps as well, from the same state.
+    pub fn call_both_ways(&mut self, call: Call) -> Outcome {
+        let before = (call == Call::Step).then(|| self.state.clone());
+        let outcome = self.call(call);
+        if let Some(before) = before {
+            self.by_sweeps(before);
+        }
+        outcome
+    }
+
+    /// A step from this state, by sweeps.
+    pub fn by_sweeps(&mut self, before: State) {
         if self.state != before {
             self.set(before);
         }

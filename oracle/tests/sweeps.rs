@@ -3,7 +3,7 @@
 use oracle::check;
 use oracle::games::cutter;
 use oracle::make::cutter_closings;
-use oracle::make::cutter_grounds::{chequerboard, chequers, drawing, fresh, snake, zigzagged};
+use oracle::make::cutter_grounds::*;
 use oracle::nearest::nearest;
 use oracle::rng::Rng;
 use oracle::state::*;
@@ -94,6 +94,7 @@ fn by_hand() {
         ("a tie", drawing(30).claimed(1..2, 1..31).peopled(&[]), (2, 2, 900)),
         ("a snake across", snake(false), (429, 1, 881)),
         ("a snake upright", snake(true), (407, 1, 898)),
+        ("the longest snake found", longest_snake(), (596, 1, 1149)),
     ];
     for (name, c, expected) in cases {
         assert_eq!(check::cutter(&c), Ok(()), "{name}");

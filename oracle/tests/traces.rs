@@ -3,10 +3,12 @@
 use oracle::calls::Call;
 use oracle::check;
 use oracle::games::{Answer, cutter};
-use oracle::make::{corners, sequences};
-use oracle::replay::{Seen, replay, replay_seen};
+use oracle::make::corners::{self, Corners};
+use oracle::make::sequences;
+use oracle::replay::{Seen, replay_seen};
 use oracle::state::*;
 use oracle::sweeps::{Closing, Fate, Region, closes_at, closing};
+use oracle::trace::Trace;
 
 const SEED: u64 = 1;
 const SEQUENCES: usize = 800;
@@ -59,16 +61,45 @@ fn the_corners_have_everything_in_a_megabyte() {
     let mut tally = Tally::default();
     let report = replay_seen(bytes.as_slice(), |seen| tally.see(&seen)).expect("in memory");
     assert_eq!((report.calls, report.differ), (corners.trace.calls, 0));
-    assert!(tally.swept >= 10, "{tally:?}");
 }
 
-/// What `replay` reads and is held to.
+/// What `replay` and `replay_swept` read and are held to.
 #[test]
-fn the_stored_trace_is_the_corners() {
-    let trace = corners::corners().trace;
-    let verdict = format!("{} calls, 0 differ\n", trace.calls);
+fn the_stored_traces_are_the_corners() {
+    let Corners { trace, swept, .. } = corners::corners();
+    let verdict = |trace: &Trace| format!("{} calls, 0 differ\n", trace.calls);
     assert!(trace.bytes == include_bytes!("../../crates/replay/stdin"), "not as stored");
-    assert_eq!(verdict, include_str!("../../crates/replay/stdout"));
+    assert_eq!(verdict(&trace), include_str!("../../crates/replay/stdout"));
+    assert!(swept.bytes == include_bytes!("../../crates/replay_swept/stdin"), "not as stored");
+    assert_eq!(verdict(&swept), include_str!("../../crates/replay_swept/stdout"));
+}
+
+/// The state before each such call of a trace.
+fn befores(trace: &[u8], call: Call) -> Vec<State> {
+    let mut befores = Vec::new();
+    let see = |seen: Seen| befores.extend((*seen.call == call).then(|| seen.before.clone()));
+    assert_eq!(replay_seen(trace, see).expect("in memory").differ, 0);
+    befores
+}
+
+#[test]
+fn each_step_of_the_corners_is_made_by_sweeps() {
+    let Corners { trace, swept, .. } = corners::corners();
+    let steps = befores(&trace.bytes, Call::Step);
+    let [here, apart] = [&trace, &swept].map(|t| befores(&t.bytes, Call::StepBySweeps));
+    println!(
+        "{} steps by sweeps in the corners, {} in {} bytes",
+        here.len(),
+        apart.len(),
+        swept.bytes.len()
+    );
+    assert_eq!(apart.len(), swept.calls);
+    let mut both = [here, apart].concat();
+    for before in &steps {
+        let at = both.iter().position(|state| state == before).expect("the step by sweeps");
+        both.remove(at);
+    }
+    assert_eq!(both, []);
 }
 
 #[test]
@@ -116,9 +147,32 @@ fn the_corners_are_what_their_names_say() {
 #[test]
 fn the_edges_replay() {
     let trace = corners::edges();
-    let report = replay(trace.bytes.as_slice()).expect("a trace in memory");
-    println!("edges: {} calls, {} bytes", trace.calls, trace.bytes.len());
+    let mut pairs = Pairs::default();
+    let report = replay_seen(trace.bytes.as_slice(), |seen| pairs.see(&seen)).expect("in memory");
+    println!("edges: {} calls, {} bytes, {} steps", trace.calls, trace.bytes.len(), pairs.number);
     assert_eq!((report.calls, report.differ), (trace.calls, 0));
+    assert!(pairs.last.is_none() && pairs.number > 100, "{} steps", pairs.number);
+}
+
+/// Steps with the same step by sweeps right behind each: the state that the last one began at, and
+/// how many there were.
+#[derive(Default)]
+struct Pairs {
+    last: Option<State>,
+    number: usize,
+}
+
+impl Pairs {
+    fn see(&mut self, seen: &Seen) {
+        match (seen.call, self.last.take()) {
+            (Call::Step, None) => self.last = Some(seen.before.clone()),
+            (Call::StepBySweeps, Some(before)) => {
+                assert_eq!(before, *seen.before);
+                self.number += 1;
+            }
+            (call, last) => assert!(last.is_none() && *call != Call::StepBySweeps, "{call:?}"),
+        }
+    }
 }
 
 /// What a trace shows, counted.
@@ -230,8 +284,14 @@ fn closed_by_sweeps(before: &Cutter, after: &Cutter) -> Vec<Region> {
 fn random_traces_are_wide_and_well_formed() {
     let trace = random(SEED, SEQUENCES);
     let mut tally = Tally::default();
-    let report = replay_seen(trace.as_slice(), |seen| tally.see(&seen)).expect("in memory");
+    let mut pairs = Pairs::default();
+    let see = |seen: Seen| {
+        tally.see(&seen);
+        pairs.see(&seen);
+    };
+    let report = replay_seen(trace.as_slice(), see).expect("in memory");
     println!("{SEQUENCES} sequences of seed {SEED}: {} calls, {tally:?}", report.calls);
+    println!("{} steps, each by sweeps as well", pairs.number);
     assert_eq!(report.differ, 0);
     assert!(report.calls > 50_000);
     for call in CALLS {
@@ -243,6 +303,6 @@ fn random_traces_are_wide_and_well_formed() {
     assert!([closings, many_regions, ties, walks, respawns].iter().all(|&n| n > 10), "{tally:?}");
     let Tally { levels, overs, breaches, refusals, .. } = tally;
     assert!([levels, overs, breaches].iter().all(|&n| n > 20), "{tally:?}");
-    assert!(tally.swept >= closings, "{tally:?}");
+    assert!(tally.swept == closings && pairs.last.is_none() && pairs.number > 5_000, "{tally:?}");
     assert!(refusals.iter().all(|&n| n > 20), "{tally:?}");
 }

@@ -6,7 +6,7 @@ use oracle::make::damage::damaged;
 use oracle::make::{corners, sequences};
 use oracle::trace::Trace;
 
-const USAGE: &str = "usage: trace_oracle SEED SEQUENCES | corners | corners-list | edges | \
+const USAGE: &str = "usage: trace_oracle SEED SEQUENCES | corners | corners-list | swept | edges | \
                      damaged refusal|answer|state|record|result|frame";
 
 fn main() -> io::Result<()> {
@@ -21,6 +21,7 @@ fn main() -> io::Result<()> {
             }
             return Ok(());
         }
+        ["swept"] => corners::corners().swept,
         ["edges"] => corners::edges(),
         ["damaged", part] => {
             let (bytes, entry, byte) = damaged(part).ok_or(io::Error::other(USAGE))?;

@@ -24,7 +24,7 @@ pub fn mine(pace: &Pace, picture: u16) -> Vec<Call> {
     ]
 }
 
-/// Cutter's calls on `c`; `picture` is the length of the good frame.
+/// Cutter's calls on `c`, the step by sweeps left to whoever makes them; `picture` is the length of the good frame.
 pub fn cutter(c: &Cutter, pace: &Pace, picture: u16) -> Vec<Call> {
     let time = pace.second.wrapping_add(MOVER);
     let level = vec![0; draws_for(c.level)];
@@ -40,7 +40,6 @@ pub fn cutter(c: &Cutter, pace: &Pace, picture: u16) -> Vec<Call> {
         Call::CutterPass { time, keys: vec![8], draws },
         Call::Direction(RIGHT),
         Call::StepEnemies,
-        Call::StepBySweeps,
         Call::Step,
         Call::Respawn,
         Call::NewLevel(level),

@@ -19,13 +19,15 @@ const SMALL: u16 = 4;
 /// A trace with a name for each stretch of it.
 pub struct Corners {
     pub trace: Trace,
+    /// The steps of it that change the state, made by sweeps.
+    pub swept: Trace,
     /// The first entry of each corner, and its name.
     pub names: Vec<(usize, String)>,
 }
 
 impl Corners {
     fn new() -> Self {
-        Corners { trace: sequences::start(), names: Vec::new() }
+        Corners { trace: sequences::start(), swept: sequences::start(), names: Vec::new() }
     }
 
     /// Calls from this state and record.
@@ -43,18 +45,21 @@ impl Corners {
         self.paced(name, Game::Cutter(Box::new(c.clone())), Pace::default(), calls);
     }
 
-    /// A step from this state, and again by sweeps.
-    pub fn step_both_ways(&mut self, name: &str, c: &Cutter) {
-        self.cutter(name, c, Vec::new());
-        let before = self.trace.state().clone();
-        self.go_on(vec![Call::Step]);
-        self.trace.again_by_sweeps(before);
-    }
-
     pub fn go_on(&mut self, calls: Vec<Call>) {
         for call in calls {
+            let before = (call == Call::Step).then(|| self.trace.state().clone());
             self.trace.call(call);
+            if let Some(before) = before {
+                self.by_sweeps(before);
+            }
         }
+    }
+
+    /// The step just made, by sweeps: here where it changed nothing, else in the trace of its own,
+    /// since each state takes 2 KB.
+    fn by_sweeps(&mut self, before: State) {
+        let trace = if *self.trace.state() == before { &mut self.trace } else { &mut self.swept };
+        trace.by_sweeps(before);
     }
 }
 
@@ -156,7 +161,7 @@ pub fn edges() -> Trace {
             if *trace.state() != state {
                 trace.set(state.clone());
             }
-            trace.call(call);
+            trace.call_both_ways(call);
         }
     };
     for (_, m) in varied(mine_variations::base, &mine_variations::variations()) {

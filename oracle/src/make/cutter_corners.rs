@@ -61,7 +61,7 @@ fn rounds(out: &mut Corners) {
 
 fn steps(out: &mut Corners) {
     let up = fresh().heading(UP);
-    out.step_both_ways("no direction: nothing", &fresh());
+    out.cutter("no direction: nothing", &fresh(), step(1));
     out.cutter("off the grid clears the direction", &up, step(2));
     for (place, dir) in [((0, 9), LEFT), ((63, 9), RIGHT), ((9, 31), DOWN)] {
         out.cutter("off each side of the grid", &fresh().at(place).heading(dir), step(1));
@@ -70,12 +70,12 @@ fn steps(out: &mut Corners) {
     let inner = fresh().at((32, 0)).heading(DOWN).claimed(30..35, 1..4);
     out.cutter("claimed away from black clears the direction", &inner, step(1));
     let creature = fresh().peopled(&[(32, 1, 1, 1)]).heading(DOWN);
-    out.step_both_ways("from the border into a creature: dead", &creature);
+    out.cutter("from the border into a creature: dead", &creature, step(1));
     let creature = drawing(4).peopled(&[(32, 5, 1, 1)]);
     out.cutter("drawing into a creature: dead", &creature, step(1));
-    out.step_both_ways("onto the own line: dead", &drawing(4).heading(UP));
+    out.cutter("onto the own line: dead", &drawing(4).heading(UP), step(1));
     let lone = fresh().line(&[(9, 9)]).at((9, 9)).heading(RIGHT);
-    out.step_both_ways("a line cell of its own, away from everything", &lone);
+    out.cutter("a line cell of its own, away from everything", &lone, step(1));
     let mut scattered = fresh().line(&[(9, 9), (12, 9), (20, 20)]).at((9, 9)).heading(RIGHT);
     out.cutter("scattered line", &scattered, step(3));
     scattered.enemies[0] = Mover { x: 30, y: 5, vx: 1, vy: 1 };
@@ -84,22 +84,20 @@ fn steps(out: &mut Corners) {
 
 fn closings(out: &mut Corners) {
     let (left, right) = ((10, 10, 1, 1), (50, 10, -1, 1));
-    out.step_both_ways("P9: keeps the left", &drawing(30).peopled(&[left]));
-    out.go_on(step(1));
+    out.cutter("P9: keeps the left", &drawing(30).peopled(&[left]), step(2));
     out.cutter("P10: keeps the right", &drawing(30).peopled(&[right]), step(1));
     out.cutter("P11: one on each, the larger", &drawing(30).peopled(&[right, left]), step(1));
     let three = [right, left, right, left, right];
     out.cutter("most creatures, in order", &drawing(30).peopled(&three), step(1));
     out.cutter("no creature: the larger", &drawing(30).peopled(&[]), step(1));
     let tied = drawing(30).claimed(1..2, 1..31);
-    out.step_both_ways("a tie: the earlier", &tied.clone().peopled(&[]));
-    out.step_both_ways("a tie with creatures", &tied.peopled(&[(50, 9, 1, 1), (9, 9, 1, 1)]));
+    out.cutter("a tie: the earlier", &tied.clone().peopled(&[]), step(1));
+    out.cutter("a tie with creatures", &tied.peopled(&[(50, 9, 1, 1), (9, 9, 1, 1)]), step(1));
     let back = drawing(1).heading(UP);
     out.cutter("a line of one cell", &back, step(2));
     let cells = [(32, 1), (32, 2), (33, 2), (34, 2), (34, 1), (33, 1)];
     let ring = fresh().line(&cells).at((33, 1)).heading(UP);
-    out.step_both_ways("the shortest walk on closing", &ring);
-    out.go_on(step(1));
+    out.cutter("the shortest walk on closing", &ring, step(2));
     let pocket = fresh().claimed(31..34, 1..2).at((31, 0));
     out.cutter("the shortest walk on respawn", &pocket, vec![Call::Respawn]);
     let far = fresh().claimed(1..60, 1..30).at((0, 30)).peopled(&[]);
@@ -107,8 +105,7 @@ fn closings(out: &mut Corners) {
     let mut last = fresh().claimed(1..63, 1..31).peopled(&[]);
     out.cutter("respawn where no black is left", &last, vec![Call::Respawn]);
     last = last.line(&[(32, 1)]).at((32, 1)).heading(UP);
-    out.step_both_ways("the last cut: no black left, no walk", &last);
-    out.go_on(step(1));
+    out.cutter("the last cut: no black left, no walk", &last, step(2));
 }
 
 fn regions(out: &mut Corners) {
@@ -117,18 +114,15 @@ fn regions(out: &mut Corners) {
         out.cutter(&name, &chequers(number), step(1));
         let last = chequers(number).peopled_in_order(number);
         let name = format!("{name}, the last with creatures");
-        if number == 49 {
-            out.step_both_ways(&name, &last);
-        } else {
-            out.cutter(&name, &last, step(1));
-        }
+        out.cutter(&name, &last, step(1));
     }
-    out.step_both_ways("one region of one cell", &chequers(1));
-    out.step_both_ways("a chequerboard: 930 regions", &chequerboard());
-    out.step_both_ways("a snake across: 429 sweeps", &snake(false));
-    out.step_both_ways("a snake upright: 407 sweeps", &snake(true));
+    out.cutter("one region of one cell", &chequers(1), step(1));
+    out.cutter("a chequerboard: 930 regions", &chequerboard(), step(1));
+    out.cutter("a snake across: 429 sweeps", &snake(false), step(1));
+    out.cutter("a snake upright: 407 sweeps", &snake(true), step(1));
+    out.cutter("the longest snake found: 596 sweeps", &longest_snake(), step(1));
     let pockets = zigzagged(3);
-    out.step_both_ways("a zigzag of 63 pockets, the large region uncounted", &pockets);
+    out.cutter("a zigzag of 63 pockets, the large region uncounted", &pockets, step(1));
     let c = pockets.peopled(&[(10, 10, 1, 1), (2, 1, 1, 1), (5, 1, 1, 1), (2, 1, -1, 1)]);
     out.cutter("the same with creatures in pockets", &c, step(1));
     out.cutter("a zigzag of 42 pockets, all counted", &zigzagged(2), step(1));

@@ -52,6 +52,18 @@ pub fn snake(upright: bool) -> Cutter {
     c
 }
 
+/// One step before a closing that leaves one corridor, the longest found against the way of the
+/// sweeps: from the far end of the first row, by stairs that fill two diagonals of three.
+pub fn longest_snake() -> Cutter {
+    let mut c = chequers(0);
+    for (y, row) in (1..).zip(include_str!("../../cases/snake.txt").lines()) {
+        for (x, _) in (1..).zip(row.bytes()).filter(|&(_, cell)| cell == b'.') {
+            c = c.black(x, y);
+        }
+    }
+    c
+}
+
 /// One step before the closing of a zigzag over so many double rows.
 pub fn zigzagged(rows: usize) -> Cutter {
     let mut c = fresh().at((1, 0));

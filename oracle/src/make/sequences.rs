@@ -50,24 +50,6 @@ fn current_cutter(trace: &Trace) -> &Cutter {
     }
 }
 
-/// Makes a call. A step that closed a cut is made by sweeps as well, and so is one in eight others.
-fn call(trace: &mut Trace, next: Call, rng: &mut Rng) {
-    let before = (next == Call::Step).then(|| trace.state().clone());
-    trace.call(next);
-    if let Some(before) = before
-        && (closed(&before, trace.state()) || rng.one_in(8))
-    {
-        trace.again_by_sweeps(before);
-    }
-}
-
-fn closed(before: &State, after: &State) -> bool {
-    match (&before.game, &after.game) {
-        (Game::Cutter(before), Game::Cutter(after)) => before.trailing && !after.trailing,
-        _ => false,
-    }
-}
-
 /// A round from the loaded mine to its end and a little beyond.
 fn play_mine(trace: &mut Trace, rng: &mut Rng) {
     let mut time = rng.word() as u32;
@@ -134,7 +116,7 @@ fn play_cutter(trace: &mut Trace, rng: &mut Rng) {
             if let Some(dir) = command {
                 trace.call(Call::Direction(dir));
             }
-            call(trace, Call::Step, rng);
+            trace.call_both_ways(Call::Step);
             if turn % enemies == 0 {
                 trace.call(Call::StepEnemies);
             }
@@ -152,7 +134,7 @@ fn draw_zigzag(trace: &mut Trace, rng: &mut Rng) {
     way.extend(zigzag(1 + rng.below(3)));
     for dir in way {
         trace.call(Call::Direction(dir));
-        call(trace, Call::Step, rng);
+        trace.call_both_ways(Call::Step);
     }
 }
 
@@ -170,7 +152,7 @@ fn try_cutter(trace: &mut Trace, rng: &mut Rng) {
     trace.set(State { game, pace: readings::pace(rng) });
     for _ in 0..STATE_CALLS {
         let next = cutter_states::call(current_cutter(trace), &trace.state().pace, rng);
-        call(trace, next, rng);
+        trace.call_both_ways(next);
     }
 }
 
@@ -202,5 +184,7 @@ fn spoil_cutter(trace: &mut Trace, rng: &mut Rng) {
     let pace = readings::pace(rng);
     let calls = battery::cutter(&c, &pace, PICTURE);
     trace.set(State { game: Game::Cutter(Box::new(c)), pace });
-    calls.into_iter().for_each(|next| call(trace, next, rng));
+    calls.into_iter().for_each(|call| {
+        trace.call_both_ways(call);
+    });
 }
