@@ -11,7 +11,8 @@ const PRINTED: &str = include_str!("../../crates/trainer/stdout");
 #[test]
 fn the_stored_script() {
     assert_eq!(Program::Trainer.lines(SCRIPT.as_bytes()), PRINTED);
-    assert!(PRINTED.lines().count() < 200);
+    let ends = |fate: &str| PRINTED.lines().filter(|line| line.ends_with(fate)).count();
+    assert_eq!([", kept", ", taken", ", not counted"].map(ends), [7, 57, 6]);
 }
 
 #[test]

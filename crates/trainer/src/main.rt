@@ -1,8 +1,9 @@
 // Block Cutter played by bytes as in `cuts`, with a lesson where a cut closes: before the line of
 // that step each sweep, the last one that changes nothing included, then each region.
 //
-// stdin: five cuts, of two regions and of three, settled by 2 to 15 sweeps, and a byte that is
-// refused. stdout: what the oracle's `trainer_oracle` prints for it.
+// stdin: a cut along the border that leaves 54 regions, six of them not counted, by 28 sweeps; six
+// more, of 8 regions, of two and of one, by 2 to 9 sweeps; and a byte that is refused. stdout: what
+// the oracle's `trainer_oracle` prints for it.
 mod lesson;
 
 use cutter_state::Cutter;
