@@ -49,9 +49,9 @@ pub fn rows(table: &Table) {
     };
     swept("closing on a fresh ground, by 3 sweeps", &states::fresh_cut());
     swept("closing a middle cut, by 2 sweeps", &states::middle());
-    swept("closing with a snake, by 429 sweeps", &states::snake());
+    swept("closing with the longest snake found, by 596 sweeps", &states::snake());
     step("closing on a fresh ground", Aim::Times(1.0), &states::fresh_cut());
-    step("closing with a snake", Aim::Times(1.0), &states::snake());
+    step("closing with the longest snake found", Aim::Times(1.0), &states::snake());
     walk(table);
     rule(table, "respawn", Aim::None, &states::laying(), Held::respawn, ours::cutter_respawn);
     fresh_level(table, 1);

@@ -129,9 +129,9 @@ pub fn fresh_cut() -> Vec<Cutter> {
     vec![cutter_grounds::fresh().line(&[(32, 1)]).at((32, 1)).heading(UP); CUTS]
 }
 
-/// One step before a closing that leaves one corridor to and fro.
+/// One step before a closing that leaves one corridor, the longest found.
 pub fn snake() -> Vec<Cutter> {
-    vec![cutter_grounds::snake(false); CUTS]
+    vec![cutter_grounds::longest_snake(); CUTS]
 }
 
 /// One step before a closing that leaves this many regions of a cell each.
