@@ -132,3 +132,22 @@ void *call_cutter_pass(Cutter *out, Cutter in, const u8 *keys, usize n, const u8
 void by_call_cutter_pass(const Cutter *in, const u8 *keys, usize n, u32 time, Cutter *out) {
     call_cutter_pass(out, *in, keys, n, keys, 0, time, 0, 0);
 }
+
+typedef struct {
+    usize index, number;
+} There;
+
+typedef struct {
+    usize words[200 / 8];
+} MineList;
+
+typedef struct {
+    usize words[72 / 8];
+} CutterList;
+
+#define WHO(List, name)                                                                            \
+    There name(List list, usize x, usize y);                                                       \
+    There by_##name(const List *list, usize x, usize y) { return name(*list, x, y); }
+
+WHO(MineList, call_mine_who)
+WHO(CutterList, call_cutter_who)

@@ -7,10 +7,10 @@ use oracle::make::cutter_states;
 use oracle::rng::Rng;
 use oracle::stand_ins::catcard_app::{screen::FRAME, sys};
 use oracle::stand_ins::device;
-use oracle::state::{CW, Cutter, Pace};
+use oracle::state::{CW, Cutter, Mover, Pace};
 
 use crate::clock::Pair;
-use crate::ours::Moved;
+use crate::ours::{Moved, Movers};
 use crate::table::{Aim, Table};
 use crate::{KEYS, LATE, ours, states};
 
@@ -63,6 +63,33 @@ pub fn rows(table: &Table) {
     counted("ground report, against black_count", Aim::None, |c| {
         black_box(ours::cutter_ground(c));
     });
+    who(table, "who is there, of 16 in Cutter: nobody", |_| (0, 0));
+    who(table, "who is there, of 16 in Cutter: the first", |list| {
+        (list.creatures[0].x.into(), list.creatures[0].y.into())
+    });
+}
+
+/// The question, at a place that is picked for each list. The original has none: a search such as
+/// its Mine has, on the same list.
+fn who(table: &Table, what: &str, place: fn(&Movers) -> (usize, usize)) {
+    let asked = |c: Cutter| {
+        let list = Movers { creatures: c.enemies, count: c.count };
+        (place(&list), list)
+    };
+    let states: Vec<_> = states::fresh(16).into_iter().map(asked).collect();
+    table.answer(
+        what,
+        Aim::None,
+        &states,
+        |((x, y), list)| (*x, *y, list.clone()),
+        |(x, y, list)| position(&list.creatures[..list.count], *x, *y),
+        |((x, y), list)| ours::cutter_who(list, *x, *y).first(),
+    );
+}
+
+#[inline(never)]
+fn position(list: &[Mover], x: usize, y: usize) -> Option<usize> {
+    list.iter().position(|e| usize::from(e.x) == x && usize::from(e.y) == y)
 }
 
 fn rule(

@@ -6,7 +6,7 @@ use oracle::games::{cutter, mine::Held};
 use oracle::stand_ins::catcard_app::screen::FRAME;
 use oracle::state::{Cutter, Mine, Pace};
 
-use crate::ours::Parts;
+use crate::ours::{Enemies, Parts};
 use crate::table::{Aim, Table};
 use crate::{KEYS, LATE, ours, states};
 
@@ -51,6 +51,25 @@ pub fn rows(table: &Table) {
     picture(table);
     pass(table, "Mine pass, both ticks, loaded", &states::loaded());
     pass(table, "Mine pass, both ticks, 8 creatures in tunnels", &states::tunnels(8));
+    who(table, "who is there, of 8 in Mine: nobody", |_| (0, 0));
+    who(table, "who is there, of 8 in Mine: the first", |m| (m.enemies[0].x, m.enemies[0].y));
+}
+
+/// The question, at a place that is picked for each state; the original tells no number.
+fn who(table: &Table, what: &str, place: fn(&Mine) -> (usize, usize)) {
+    let asked = |m: Mine| {
+        let list = Enemies { creatures: m.enemies.clone(), count: m.count };
+        (place(&m), list, m)
+    };
+    let states: Vec<_> = states::tunnels(8).into_iter().map(asked).collect();
+    table.answer(
+        what,
+        Aim::None,
+        &states,
+        |((x, y), _, m)| (*x, *y, Held::of(m)),
+        |(x, y, g)| g.enemy_at(*x, *y),
+        |((x, y), list, _)| ours::mine_who(list, *x, *y).first(),
+    );
 }
 
 fn in_place(table: &Table, what: &str, states: &[Mine], rust: fn(&mut Held), ours: fn(&mut Parts)) {

@@ -28,6 +28,30 @@ pub struct Moved {
     pub met: bool,
 }
 
+/// The list of a question.
+#[repr(C)]
+#[derive(Clone)]
+pub struct List<T, const N: usize> {
+    pub creatures: [T; N],
+    pub count: usize,
+}
+
+pub type Enemies = List<Enemy, ENEMIES>;
+pub type Movers = List<Mover, MOVERS>;
+
+/// Who is there.
+#[repr(C)]
+pub struct There {
+    index: usize,
+    number: usize,
+}
+
+impl There {
+    pub fn first(&self) -> Option<usize> {
+        (self.number != 0).then_some(self.index)
+    }
+}
+
 macro_rules! calls {
     ($($name:ident: $call:ident($($word:ident: $type:ty),*) $(-> $result:ty)?;)*) => {
         unsafe extern "C" {
@@ -57,6 +81,8 @@ calls! {
     cutter_respawn: by_rule_cutter_respawn(c: &Cutter, out: &mut Cutter);
     cutter_walk: by_rule_cutter_walk(c: &Cutter) -> usize;
     cutter_ground: by_call_cutter_ground(c: &Cutter) -> Ground;
+    mine_who: by_call_mine_who(list: &Enemies, x: usize, y: usize) -> There;
+    cutter_who: by_call_cutter_who(list: &Movers, x: usize, y: usize) -> There;
 }
 
 /// The player's part of a Cutter state after a step, as the port has it.

@@ -3,9 +3,16 @@
 use cutter::CutterAnswer;
 use cutter::Ground;
 use cutter_state::Cutter;
+use found::Found;
+use cutter_ground::Mover;
 use mine::MineAnswer;
+use mine_state::Enemy;
 use mine_state::Mine;
 ghost use mathlib.Core.Path.{_≡_};
+ghost use lib.ListN.{take};
+ghost use Rattle.mine.specs.Question as MineQuestion;
+ghost use Rattle.cutter.specs.Question.{whoAt};
+ghost use Rattle.bench_calls.specs.There.{thereOf};
 ghost use Rattle.mine_pass.specs.Pass as MinePass;
 ghost use Rattle.mine.specs.Calls.{moveCall, gravityCall, tickCall};
 ghost use Rattle.cutter_pass.specs.Pass.{passAt};
@@ -81,4 +88,55 @@ pub extern "C" fn call_cutter_tick(c: Cutter) -> CutterAnswer
     ensures { λ r. ⌜ r ≡ enemiesCall c ⌝ }
 {
     cutter::step_enemies(c)
+}
+
+// The lists of a question: the first `count` of these.
+#[repr(C)]
+pub struct Enemies {
+    pub enemies: [Enemy; mine_state::MAX_ENEMIES],
+    pub count: usize,
+}
+
+#[repr(C)]
+pub struct Movers {
+    pub enemies: [Mover; cutter_ground::MAX_ENEMIES],
+    pub count: usize,
+}
+
+// Who is there: the index of the first and the number, both 0 for nobody.
+#[repr(C)]
+pub struct There {
+    pub index: usize,
+    pub number: usize,
+}
+
+fn there_of(f: Found) -> There
+    ensures { λ r. ⌜ r ≡ thereOf f ⌝ }
+{
+    match f {
+        Found::At(i, n) => There {
+            index: i,
+            number: n,
+        },
+        Found::Nobody => There {
+            index: 0,
+            number: 0,
+        },
+    }
+}
+
+#[no_mangle]
+pub extern "C" fn call_mine_who(list: Enemies, x: usize, y: usize) -> There
+    ensures { λ r. ⌜ r ≡ thereOf (MineQuestion.whoAt (take (list .count) (list .enemies)) x y) ⌝ }
+{
+    let enemies = list.enemies;
+    there_of(mine::who_of(enemies, list.count, x, y))
+}
+
+#[no_mangle]
+pub extern "C" fn call_cutter_who(list: Movers, x: usize, y: usize) -> There
+    ensures { λ r. ⌜ r ≡ thereOf (whoAt (take (list .count) (list .enemies)) x y) ⌝ }
+{
+    let enemies = list.enemies;
+    there_of(cutter::who_of(enemies, list.count, x, y))
 }

@@ -146,6 +146,11 @@ impl Held {
     }
 
     #[inline(never)]
+    pub fn enemy_at(&self, x: usize, y: usize) -> Option<usize> {
+        self.0.enemy_at(x, y)
+    }
+
+    #[inline(never)]
     pub fn render(&self, pixels: &mut [u8; FRAME], texts: &mut Vec<String>) {
         paint(&mut Frame::new(pixels, texts), &self.0);
     }
