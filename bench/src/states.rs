@@ -129,9 +129,10 @@ pub fn fresh_cut() -> Vec<Cutter> {
     vec![cutter_grounds::fresh().line(&[(32, 1)]).at((32, 1)).heading(UP); CUTS]
 }
 
-/// One step before a closing that leaves one corridor, the longest found.
+/// One step before a closing that leaves one corridor, the longest found. One state: its sweeps
+/// take milliseconds, and a short batch is seldom disturbed.
 pub fn snake() -> Vec<Cutter> {
-    vec![cutter_grounds::longest_snake(); CUTS]
+    vec![cutter_grounds::longest_snake()]
 }
 
 /// One step before a closing that leaves this many regions of a cell each.
