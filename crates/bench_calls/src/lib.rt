@@ -1,5 +1,5 @@
-// The passes and the ground report that bench/ measures with the check, under plain names, and the calls of a tick, a step and a move
-// beside them: so the library is compiled as one for a host is, where calls and passes share the rules.
+// The passes and the ground report that bench/ measures with the check, and the questions, under plain names, and the calls of a tick,
+// a step and a move beside them: so the library is compiled as one for a host is, where calls and passes share the rules.
 use cutter::CutterAnswer;
 use cutter::Ground;
 use cutter_state::Cutter;
