@@ -10,28 +10,39 @@ use mine_state::Mine;
 use mine_state::W;
 use mine_state::stands_at;
 use refusal::Refusal;
-ghost use mathlib.Core.Bool.{_&&_};
+ghost use mathlib.Core.Bool.{_&&_, cond};
 ghost use mathlib.Core.Path.{_≡_};
 ghost use Prim.Native.Nat.{_≤_, _+_};
-ghost use lib.Dec.{leb};
+ghost use lib.Dec.{leb, ltb};
 ghost use lib.ListN.{length, take, drop};
-ghost use Rattle.laws.specs.Lists.{all, any, count};
-ghost use Rattle.mine_state.specs.State.{AREA, MAX-ENEMIES, emptyAt, standsAt, isCoin, isCode};
+ghost use Rattle.laws.specs.Lists.{all, count};
+ghost use Rattle.mine_state.specs.State.{AREA, MAX-ENEMIES, emptyAt, isCoin, isCode};
 ghost use Rattle.mine_state.specs.WellFormed.{creatureOk, apart, isBlank, refusalOf};
-ghost use Rattle.mine_check.specs.CodePasses.{Counted, Part};
 
-// Every cell holds a code from EMPTY to EXIT.
+// The cells of half a grid, few enough to be counted in a byte.
+const HALF: usize = AREA / 2;
+
+fn larger(a: u8, b: u8) -> u8
+    ensures { λ r. ⌜ r ≡ cond (ltb a b) b a ⌝ }
+{
+    if a < b {
+        return b;
+    }
+    a
+}
+
+// Every cell holds a code from EMPTY to EXIT: the largest does.
 fn codes_ok(grid: &[u8; AREA]) -> bool
     requires { ⌜ length (now grid) ≡ AREA ⌝ }
     ensures { λ r. ⌜ r ≡ all isCode (now (grid .entry)) ⌝ }
 {
-    let mut bad = false;
+    let mut most: u8 = 0;
     let mut i: usize = 0;
     while i < AREA {
-        bad = bad | (EXIT < grid[i]);
+        most = larger(most, grid[i]);
         i += 1;
     }
-    !bad
+    most <= EXIT
 }
 
 // (x, y) is on the grid and its cell is empty.
@@ -56,92 +67,30 @@ fn creature_ok(grid: &[u8; AREA], e: Enemy) -> bool
     empty_at(grid, e.x, e.y) & (e.dir <= 3)
 }
 
-// Every creature is on an empty cell, with a direction from 0 to 3.
-fn each_ok(grid: &[u8; AREA], enemies: [Enemy; MAX_ENEMIES], n: usize) -> bool
-    requires { ⌜ Counted (now grid) n ⌝ }
-    ensures { λ r. ⌜ r ≡ all (creatureOk (now (grid .entry))) (take n enemies) ⌝ }
-{
-    let mut i: usize = 0;
-    while i < n {
-        let e = enemies[i];
-        if !creature_ok(grid, e) {
-            return false;
-        }
-        i += 1;
-    }
-    true
-}
-
-// One of the creatures from `from` on stands at (x, y).
-fn one_from(enemies: [Enemy; MAX_ENEMIES], n: usize, from: usize, x: usize, y: usize) -> bool
-    requires { ⌜ Part from n ⌝ }
-    ensures { λ r. ⌜ r ≡ any (standsAt x y) (drop from (take n enemies)) ⌝ }
-{
-    let mut i = from;
-    while i < n {
-        let e = enemies[i];
-        if stands_at(e, x, y) {
-            return true;
-        }
-        i += 1;
-    }
-    false
-}
-
-// No two creatures stand on one cell.
-fn all_apart(enemies: [Enemy; MAX_ENEMIES], n: usize) -> bool
-    requires { ⌜ n ≤ MAX-ENEMIES ⌝ }
-    ensures { λ r. ⌜ r ≡ apart (take n enemies) ⌝ }
-{
-    let mut i: usize = 0;
-    while i < n {
-        let e = enemies[i];
-        if one_from(enemies, n, i + 1, e.x, e.y) {
-            return false;
-        }
-        i += 1;
-    }
-    true
-}
-
 fn is_blank(e: Enemy) -> bool
     ensures { λ r. ⌜ r ≡ isBlank e ⌝ }
 {
     (e.x == 0) & (e.y == 0) & (e.dir == 0)
 }
 
-// The slots past the count hold zeros.
-fn rest_blank(enemies: [Enemy; MAX_ENEMIES], n: usize) -> bool
-    requires { ⌜ n ≤ MAX-ENEMIES ⌝ }
-    ensures { λ r. ⌜ r ≡ all isBlank (drop n enemies) ⌝ }
-{
-    let mut i = n;
-    while i < MAX_ENEMIES {
-        let e = enemies[i];
-        if !is_blank(e) {
-            return false;
-        }
-        i += 1;
-    }
-    true
-}
-
-// How many cells hold a coin.
+// How many cells hold a coin. Each half of the grid is counted in a byte.
 pub fn coin_count(grid: &[u8; AREA]) -> u16
     requires { ⌜ length (now grid) ≡ AREA ⌝ }
     ensures { λ r. ⌜ (r ≡ count isCoin (now (grid .entry))) × (r ≤ AREA) ⌝ }
 {
-    let mut n: u16 = 0;
+    let mut upper: u8 = 0;
+    let mut lower: u8 = 0;
     let mut i: usize = 0;
-    while i < AREA {
-        if grid[i] == COIN {
-            n += 1;
-        }
+    while i < HALF {
+        upper += (grid[i] == COIN) as u8;
+        lower += (grid[HALF + i] == COIN) as u8;
         i += 1;
     }
-    n
+    upper as u16 + lower as u16
 }
 
+// Each creature is right by itself and no later one stands on its cell; the slots past the count hold zeros. One function, which
+// copies the creatures once.
 fn creatures_ok(grid: &[u8; AREA], enemies: [Enemy; MAX_ENEMIES], n: usize) -> bool
     requires { ⌜ length (now grid) ≡ AREA ⌝ }
     ensures { λ r. ⌜ r ≡ (leb n MAX-ENEMIES && all (creatureOk (now (grid .entry))) (take n enemies) && apart (take n enemies) && all isBlank (drop n enemies)) ⌝ }
@@ -149,7 +98,31 @@ fn creatures_ok(grid: &[u8; AREA], enemies: [Enemy; MAX_ENEMIES], n: usize) -> b
     if MAX_ENEMIES < n {
         return false;
     }
-    each_ok(grid, enemies, n) & all_apart(enemies, n) & rest_blank(enemies, n)
+    let mut i: usize = 0;
+    while i < n {
+        let e = enemies[i];
+        if !creature_ok(grid, e) {
+            return false;
+        }
+        let mut j = i + 1;
+        while j < n {
+            let d = enemies[j];
+            if stands_at(d, e.x, e.y) {
+                return false;
+            }
+            j += 1;
+        }
+        i += 1;
+    }
+    let mut k = n;
+    while k < MAX_ENEMIES {
+        let e = enemies[k];
+        if !is_blank(e) {
+            return false;
+        }
+        k += 1;
+    }
+    true
 }
 
 // Coins in hand and on the map, and the coins needed.

@@ -1,51 +1,87 @@
-use mathlib.Core.Logic.{⊎-elim}
-use mathlib.Core.Path.{_≡_}
-use Prim.Native.Nat.{_≤_, _+_, _-_}
+use mathlib.Core.Path.{_≡_, refl}
+use Prim.Native.Nat.{_≤_, _<_, _+_, _-_}
 use native.Mathlib.Omega.{arith}
-use lib.ListN.{drop}
-use borrow.Author.Tests.{eq-eqb, ne-eqb}
+use lib.ListN.{length, getD, take, drop, length-drop}
+use lib.Seq.{getD-drop}
+use borrow.Author.Needs.{needs}
 use Rattle.laws.specs.Lists.{count}
-use Rattle.laws.proofs.Lists.{drop-one, drop-end, count-hit, count-miss, count-end}
-use Rattle.mine_state.specs.State.{AREA, isCoin}
+use Rattle.mine_state.specs.State.{isCoin}
+use Rattle.mine_check.proofs.Coins.{HALF, flag-small, coins-more, halves}
 use Rattle.mine_check.proofs.coin_count.Statement.{statement}
 use Rattle.mine_check.proofs.coin_count.Tie as tie
 
 abbrev Inv-loop : tie.InvT-loop
-Inv-loop grid n₀ i₀ n i = (i ≤ AREA) × (n ≤ i) × (n + count isCoin (drop i grid) ≡ count isCoin grid)
+Inv-loop grid upper₀ lower₀ i₀ upper lower i =
+    (i ≤ HALF) × (upper ≤ i) × (lower ≤ i) × (upper ≡ count isCoin (take i grid)) × (lower ≡ count isCoin (take i (drop HALF grid)))
 
 abbrev μ-loop : tie.MeasureT-loop
-μ-loop grid n₀ i₀ n i = AREA - i
+μ-loop grid upper₀ lower₀ i₀ upper lower i = HALF - i
 
 loop-holds : tie.Need-loop-holds Inv-loop μ-loop
-loop-holds c = omega arith
+loop-holds c = (omega arith, omega arith, omega arith, refl, refl)
 
-element-copy-out-if1 : tie.Need-element-copy-out-if1 Inv-loop μ-loop
-element-copy-out-if1 c = omega (arith, c .before .before .pre)
+element-copy-out-upper : tie.Need-element-copy-out-upper Inv-loop μ-loop
+element-copy-out-upper c = search needs
 
-add-n : tie.Need-add-n Inv-loop μ-loop
-add-n c = omega arith
+cast-upper : tie.Need-cast-upper Inv-loop μ-loop
+cast-upper c = search needs
+
+add-upper : tie.Need-add-upper Inv-loop μ-loop
+add-upper c =
+    let k = c .before .before in
+    omega (arith, flag-small (isCoin (getD (k .before .args .grid .now) (k .loop .i) 0)))
+
+add-lower : tie.Need-add-lower Inv-loop μ-loop
+add-lower c = search needs
+
+element-copy-out-lower : tie.Need-element-copy-out-lower Inv-loop μ-loop
+element-copy-out-lower c = search needs
+
+cast-lower : tie.Need-cast-lower Inv-loop μ-loop
+cast-lower c = search needs
+
+add-lower-2 : tie.Need-add-lower-2 Inv-loop μ-loop
+add-lower-2 c =
+    let k = c .before .before .before in
+    omega (arith, flag-small (isCoin (getD (k .before .args .grid .now) (HALF + k .loop .i) 0)))
 
 add-i : tie.Need-add-i Inv-loop μ-loop
-add-i c = omega arith
+add-i c = search needs
 
 loop-less : tie.Need-loop-less Inv-loop μ-loop
-loop-less c = omega arith
+loop-less c = search needs
 
 loop-again : tie.Need-loop-again Inv-loop μ-loop
 loop-again c =
     let k = c .before .before .before in
     let g = k .before .args .grid .now in
-    let h = drop-one g (k .loop .i) 0 (omega (arith, k .before .pre)) in
-    ⊎-elim
-    (λ w. omega (arith, count-hit isCoin g (k .loop .i) (k .loop .n) h (k .loop .inv .2) (eq-eqb _ _ (w .0 .taken))))
-    (λ w. omega (arith, count-miss isCoin g (k .loop .i) (k .loop .n) h (k .loop .inv .2) (ne-eqb _ _ (w .0 .left))))
-    (c .if1 .came)
+    let full : length g ≡ 336 = k .before .pre in
+    let rest : k .loop .i < length (drop HALF g) = simp length-drop (omega arith) in (
+      omega arith,
+      omega (arith, flag-small (isCoin (getD g (k .loop .i) 0))),
+      omega (arith, flag-small (isCoin (getD g (HALF + k .loop .i) 0))),
+      coins-more g (k .loop .i) (k .loop .upper) (k .loop .inv .3) (omega arith),
+      rw (getD-drop HALF g (k .loop .i) 0) at (coins-more (drop HALF g) (k .loop .i) (k .loop .lower) (k .loop .inv .4) rest),
+    )
+
+cast-result : tie.Need-cast-result Inv-loop μ-loop
+cast-result c = search needs
+
+cast-result-2 : tie.Need-cast-result-2 Inv-loop μ-loop
+cast-result-2 c = search needs
+
+add-result : tie.Need-add-result Inv-loop μ-loop
+add-result c = search needs
 
 returns : tie.Need-returns Inv-loop μ-loop
 returns c =
     let k = c .before in
     let g = k .before .args .grid .now in
-    (count-end isCoin g (k .loop .i) (k .loop .n) (drop-end g (k .loop .i) (omega (arith, k .before .pre))) (k .loop .inv .2), omega arith)
+    let e : k .loop .i ≡ HALF = omega arith in
+    let u : k .loop .upper ≡ count isCoin (take HALF g) = rw e at (k .loop .inv .3) in
+    let l : k .loop .lower ≡ count isCoin (take HALF (drop HALF g)) = rw e at (k .loop .inv .4) in
+    let q = halves g (k .before .pre) in
+    (omega arith, omega arith)
 
 pub coin-count-spec : {M : Type 1} → statement M
 coin-count-spec =
@@ -54,9 +90,17 @@ coin-count-spec =
     Inv-loop
     μ-loop
     loop-holds
-    element-copy-out-if1
-    add-n
+    element-copy-out-upper
+    cast-upper
+    add-upper
+    add-lower
+    element-copy-out-lower
+    cast-lower
+    add-lower-2
     add-i
     loop-less
     loop-again
+    cast-result
+    cast-result-2
+    add-result
     returns)
