@@ -12,13 +12,13 @@ use oracle::state::{CW, Cutter, Mover, Pace};
 use crate::clock::Pair;
 use crate::ours::{Moved, Movers};
 use crate::table::{Aim, Table};
-use crate::{KEYS, LATE, ours, states};
+use crate::{EARLY, KEYS, LATE, ours, states};
 
 pub fn rows(table: &Table) {
     let copies = copies(table);
     let counted = |what: &str, aim, ours: fn(&Cutter)| {
         let rust = |_: &_, g: &mut Held| _ = black_box(g.black_count());
-        table.row(what, table.0.pair(&states::cut(), Held::of, rust, ours), aim);
+        table.row(what, table.clock.pair(&states::cut(), Held::of, rust, ours), aim);
     };
     counted("check of Cutter states, against black_count", Aim::Times(1.0), |c| {
         black_box(ours::cutter_check(c));
@@ -58,8 +58,10 @@ pub fn rows(table: &Table) {
     fresh_level(table, 16);
     picture(table);
     for n in [2, 8, 16] {
-        pass(table, &format!("Cutter pass, both ticks, {n} creatures"), &states::fresh(n));
+        let what = format!("Cutter pass, both ticks, {n} creatures");
+        pass(table, &what, Aim::Times(1.0), &KEYS, LATE, &states::fresh(n));
     }
+    pass(table, "Cutter pass, no key, nothing due", Aim::None, &[], EARLY, &states::fresh(2));
     counted("ground report, against black_count", Aim::None, |c| {
         black_box(ours::cutter_ground(c));
     });
@@ -122,7 +124,7 @@ fn tick(table: &Table, what: &str, states: &[Cutter]) {
 fn copies(table: &Table) -> f64 {
     let states = states::cut();
     let mut out = states[0].clone();
-    let pair = table.0.pair(
+    let pair = table.clock.pair(
         &states,
         Cutter::clone,
         |s, g| g.clone_from(s),
@@ -145,7 +147,7 @@ fn walk(table: &Table) {
         let Cutter { px, py, .. } = held.state();
         assert_eq!(py * CW + px, ours(c), "walk");
     }
-    let pair = table.0.pair(&states, Held::of, |_, g| rust(g), |c| _ = black_box(ours(c)));
+    let pair = table.clock.pair(&states, Held::of, |_, g| rust(g), |c| _ = black_box(ours(c)));
     table.row("the walk at its worst", pair, Aim::Times(1.0));
 }
 
@@ -164,7 +166,7 @@ fn fresh_level(table: &Table, n: u32) {
     let levels = |_: &(), games: &mut Vec<Held>| {
         device::run(0, &[], &all, || games.iter_mut().for_each(|g| black_box(g).new_level()));
     };
-    let with = table.0.pair(&[()], hold, levels, |_| {
+    let with = table.clock.pair(&[()], hold, levels, |_| {
         for c in &states {
             ours::cutter_level(black_box(c), &draws, &mut out);
             black_box(&mut out);
@@ -177,7 +179,7 @@ fn fresh_level(table: &Table, n: u32) {
             }
         });
     };
-    let without = table.0.pair(&[()], |_| (), drawn, |_| ());
+    let without = table.clock.pair(&[()], |_| (), drawn, |_| ());
     let each = |batch: f64| batch / states.len() as f64;
     let pair = Pair { rust: each(with.rust - without.rust), ours: each(with.ours) };
     table.row(&format!("fresh level, {n} creatures"), pair, Aim::None);
@@ -197,8 +199,10 @@ fn picture(table: &Table) {
     table.answer("Cutter picture", Aim::Times(1.0), &states::cut(), Held::of, rust, ours);
 }
 
-fn pass(table: &Table, what: &str, states: &[Cutter]) {
-    let rust = |_: &Cutter, g: &mut Held| _ = g.pass(&KEYS, &[], LATE, &mut Pace::start(0));
-    let ours = |c: &Cutter, out: &mut Cutter| ours::cutter_pass(c, &KEYS, LATE, out);
-    table.rule(what, Aim::Times(1.0), states, Held::of, rust, Held::state, ours);
+fn pass(table: &Table, what: &str, aim: Aim, keys: &[u8], time: u32, states: &[Cutter]) {
+    let (keys, time) = black_box((keys, time));
+    let rust =
+        |_: &Cutter, g: &mut Held| _ = black_box(g.pass(keys, &[], time, &mut Pace::start(0)));
+    let ours = |c: &Cutter, out: &mut Cutter| ours::cutter_pass(c, keys, time, out);
+    table.rule(what, aim, states, Held::of, rust, Held::state, ours);
 }

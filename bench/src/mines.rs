@@ -8,7 +8,7 @@ use oracle::state::{Cutter, Mine, Pace};
 
 use crate::ours::{Enemies, Parts};
 use crate::table::{Aim, Table};
-use crate::{KEYS, LATE, ours, states};
+use crate::{EARLY, KEYS, LATE, ours, states};
 
 pub fn rows(table: &Table) {
     let copies = copies(table);
@@ -38,19 +38,29 @@ pub fn rows(table: &Table) {
     for (what, states) in [("gravity, loaded", states::loaded()), ("gravity, busy", states::busy())]
     {
         let rust = |g: &mut Held| g.gravity();
-        in_place(table, what, &states, rust, ours::mine_gravity_on);
+        in_place(table, what, Aim::Times(0.8), &states, rust, ours::mine_gravity_on);
         by_value(table, what, copies, &states, rust, ours::mine_gravity);
     }
-    for n in [2, 8] {
+    for (n, most) in [(2, 1.15), (8, 1.0)] {
         let what = format!("Mine creature tick, {n}");
         let states = states::tunnels(n);
         let rust = |g: &mut Held| g.move_enemies();
-        in_place(table, &what, &states, rust, ours::mine_tick_on);
+        in_place(table, &what, Aim::Times(most), &states, rust, ours::mine_tick_on);
         by_value(table, &what, copies, &states, rust, ours::mine_tick);
     }
     picture(table);
-    pass(table, "Mine pass, both ticks, loaded", &states::loaded());
-    pass(table, "Mine pass, both ticks, 8 creatures in tunnels", &states::tunnels(8));
+    let both =
+        |what: &str, states: &[Mine]| pass(table, what, Aim::Times(1.5), &KEYS, LATE, states);
+    both("Mine pass, both ticks, loaded", &states::loaded());
+    both("Mine pass, both ticks, 8 creatures in tunnels", &states::tunnels(8));
+    pass(
+        table,
+        "Mine pass, no key, nothing due",
+        Aim::Within(120.0),
+        &[],
+        EARLY,
+        &states::loaded(),
+    );
     who(table, "who is there, of 8 in Mine: nobody", |_| (0, 0));
     who(table, "who is there, of 8 in Mine: the first", |m| (m.enemies[0].x, m.enemies[0].y));
 }
@@ -72,10 +82,17 @@ fn who(table: &Table, what: &str, place: fn(&Mine) -> (usize, usize)) {
     );
 }
 
-fn in_place(table: &Table, what: &str, states: &[Mine], rust: fn(&mut Held), ours: fn(&mut Parts)) {
+fn in_place(
+    table: &Table,
+    what: &str,
+    aim: Aim,
+    states: &[Mine],
+    rust: fn(&mut Held),
+    ours: fn(&mut Parts),
+) {
     let held = (Held::of, |_: &Mine, g: &mut Held| rust(g), Held::state);
     let parts = (Parts::of, |_: &Mine, p: &mut Parts| ours(p), Parts::whole);
-    table.in_parts(what, Aim::Times(1.0), states, held, parts);
+    table.in_parts(what, aim, states, held, parts);
 }
 
 fn by_value(
@@ -94,7 +111,7 @@ fn by_value(
 fn copies(table: &Table) -> f64 {
     let states = states::loaded();
     let mut out = states[0].clone();
-    let pair = table.0.pair(
+    let pair = table.clock.pair(
         &states,
         Mine::clone,
         |s, g| g.clone_from(s),
@@ -112,16 +129,16 @@ fn check(table: &Table) {
     let states: Vec<(Mine, Cutter)> = mines.zip(states::cut()).collect();
     let hold = |s: &(Mine, Cutter)| cutter::Held::of(&s.1);
     let rust = |_: &_, g: &mut cutter::Held| _ = black_box(g.black_count());
-    let pair = table.0.pair(&states, hold, rust, |s| {
+    let pair = table.clock.pair(&states, hold, rust, |s| {
         black_box(ours::mine_check(&s.0));
     });
-    table.row("check of Mine states, against black_count", pair, Aim::Times(0.5));
+    table.row("check of Mine states, against black_count", pair, Aim::Times(0.08));
 }
 
 fn load(table: &Table) {
     let rust = |_: &(), g: &mut Held| *g = Held::load();
     let ours = |_: &(), out: &mut Mine| ours::mine_load(out);
-    table.rule("load", Aim::None, &[(); 16], |_| Held::load(), rust, Held::state, ours);
+    table.rule("load", Aim::Times(1.3), &[(); 16], |_| Held::load(), rust, Held::state, ours);
 }
 
 /// The original also writes the text above its picture, which is not drawn.
@@ -142,8 +159,9 @@ fn picture(table: &Table) {
     table.answer("Mine picture", Aim::Times(1.0), &states, Held::of, rust, ours);
 }
 
-fn pass(table: &Table, what: &str, states: &[Mine]) {
-    let rust = |_: &Mine, g: &mut Held| _ = g.pass(&KEYS, LATE, &mut Pace::start(0));
-    let ours = |m: &Mine, out: &mut Mine| ours::mine_pass(m, &KEYS, LATE, out);
-    table.rule(what, Aim::Times(1.5), states, Held::of, rust, Held::state, ours);
+fn pass(table: &Table, what: &str, aim: Aim, keys: &[u8], time: u32, states: &[Mine]) {
+    let (keys, time) = black_box((keys, time));
+    let rust = |_: &Mine, g: &mut Held| _ = black_box(g.pass(keys, time, &mut Pace::start(0)));
+    let ours = |m: &Mine, out: &mut Mine| ours::mine_pass(m, keys, time, out);
+    table.rule(what, aim, states, Held::of, rust, Held::state, ours);
 }

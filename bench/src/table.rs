@@ -13,9 +13,15 @@ pub enum Aim {
     Times(f64),
     /// The original's time and these nanoseconds.
     More(f64),
+    /// These nanoseconds.
+    Within(f64),
 }
 
-pub struct Table(pub Clock);
+pub struct Table {
+    pub clock: Clock,
+    /// Digits past the point of each time.
+    pub digits: usize,
+}
 
 impl Table {
     pub fn head(&self) {
@@ -28,13 +34,15 @@ impl Table {
             Aim::None => None,
             Aim::Times(times) => Some(rust * times),
             Aim::More(more) => Some(rust + more),
+            Aim::Within(most) => Some(most),
         };
         let ratio = ours / rust;
         let (most, met) = match most {
             None => (String::new(), ""),
             Some(most) => (format!("{most:.0}"), if ours <= most { "met" } else { "above" }),
         };
-        println!("| {what} | {rust:.0} | {ours:.0} | {ratio:.2} | {most} | {met} |");
+        let digits = self.digits;
+        println!("| {what} | {rust:.digits$} | {ours:.digits$} | {ratio:.2} | {most} | {met} |");
     }
 
     /// A rule that the original plays in place and the port by value. Both must give the same.
@@ -60,7 +68,7 @@ impl Table {
             ours(s, &mut out);
             black_box(&mut out);
         };
-        self.row(what, self.0.pair(states, hold, rust, ours), aim);
+        self.row(what, self.clock.pair(states, hold, rust, ours), aim);
     }
 
     /// A rule that both play in place, ours on a state of its own. Both must give the same.
@@ -94,7 +102,7 @@ impl Table {
             ours(s, &mut owned);
             assert_eq!(after(&held), whole(&owned), "{what}");
         }
-        self.row(what, self.0.both(states, (&hold, rust), (own, ours)), aim);
+        self.row(what, self.clock.both(states, (&hold, rust), (own, ours)), aim);
     }
 
     /// What is asked of a state and changes nothing. Both must answer the same.
@@ -112,6 +120,6 @@ impl Table {
         }
         let rust = |_: &S, g: &mut G| _ = black_box(rust(g));
         let ours = |s: &S| _ = black_box(ours(s));
-        self.row(what, self.0.pair(states, hold, rust, ours), aim);
+        self.row(what, self.clock.pair(states, hold, rust, ours), aim);
     }
 }
