@@ -49,10 +49,12 @@ pub fn rows(table: &Table) {
         by_value(table, &what, copies, &states, rust, ours::mine_tick);
     }
     picture(table);
-    let both =
-        |what: &str, states: &[Mine]| pass(table, what, Aim::Times(1.5), &KEYS, LATE, states);
-    both("Mine pass, both ticks, loaded", &states::loaded());
-    both("Mine pass, both ticks, 8 creatures in tunnels", &states::tunnels(8));
+    for (what, most, states) in [
+        ("Mine pass, both ticks, loaded", 1.1, states::loaded()),
+        ("Mine pass, both ticks, 8 creatures in tunnels", 0.9, states::tunnels(8)),
+    ] {
+        pass(table, what, Aim::Times(most), &KEYS, LATE, &states);
+    }
     pass(
         table,
         "Mine pass, no key, nothing due",

@@ -13,7 +13,8 @@ use mine_state::Mine;
 use mine_state::W;
 use mine_state::WALL;
 ghost use mathlib.Core.Path.{_≡_};
-ghost use lib.ListN.{length};
+ghost use lib.ListN.{length, getD};
+ghost use Rattle.laws.specs.Lists.{table};
 ghost use Rattle.mine_state.specs.State.{AREA};
 ghost use Rattle.mine_rules.specs.Load.{tileOf, mineOf, loaded};
 
@@ -51,12 +52,26 @@ fn tile_of(c: u8) -> u8
     }
 }
 
+// The tiles of a text: a pass of its own, so that a character's tile is looked up and never a branch.
+fn tiles_of(text: &[u8; AREA]) -> [u8; AREA]
+    requires { ⌜ length (now text) ≡ AREA ⌝ }
+    ensures { λ r. ⌜ r ≡ table AREA (λ i. tileOf (getD (now (text .entry)) i 0)) ⌝ }
+{
+    let mut grid: [u8; AREA] = [WALL; AREA];
+    let mut i: usize = 0;
+    while i < AREA {
+        grid[i] = tile_of(text[i]);
+        i += 1;
+    }
+    grid
+}
+
 // The mine that a text draws, row by row.
 fn mine_of(text: &[u8; AREA]) -> Mine
     requires { ⌜ length (now text) ≡ AREA ⌝ }
     ensures { λ r. ⌜ r ≡ mineOf (now (text .entry)) ⌝ }
 {
-    let mut grid: [u8; AREA] = [WALL; AREA];
+    let grid = tiles_of(text);
     let mut px: usize = 1;
     let mut py: usize = 1;
     let mut enemies: [Enemy; MAX_ENEMIES] = [Enemy { x: 0, y: 0, dir: 0 }; MAX_ENEMIES];
@@ -66,7 +81,6 @@ fn mine_of(text: &[u8; AREA]) -> Mine
         let c = text[i];
         let x = i % W;
         let y = i / W;
-        grid[i] = tile_of(c);
         i += 1;
         match c {
             b'P' => {

@@ -1,33 +1,32 @@
-use mathlib.Core.Path.{_≡_, refl, _∙_}
-use Prim.Native.Nat.{_≤_, _-_}
+use mathlib.Core.List.{List}
+use mathlib.Core.Path.{_≡_, sym, ap}
+use Prim.Native.Nat.{ℕ, _≤_, _-_}
 use native.Mathlib.Omega.{arith}
-use lib.ListN.{length, length-set}
 use borrow.Author.Needs.{needs}
 use borrow.Author.Tests.{lt-ltb, le-ltb, eq-eqb, ne-eqb}
 use Rattle.mine_state.specs.State.{AREA}
+use Rattle.laws.proofs.Table.{table-none}
+use Rattle.mine_state.specs.Change.{withGrid}
 use Rattle.mine_rules.specs.Load.{unread, readFrom}
-use Rattle.mine_moves.proofs.Reading.{soFar, read-player, read-creature, read-tile, read-more, read-done, asked}
+use Rattle.mine_moves.proofs.Reading.{tiledTo, soFar, read-player, read-creature, read-tile, read-done, asked}
 use Rattle.mine_moves.proofs.level.mine_of.Statement.{statement}
 use Rattle.mine_moves.proofs.level.mine_of.Tie as tie
 
 abbrev Inv-loop : tie.InvT-loop
-Inv-loop text grid₀ px₀ py₀ enemies₀ count₀ i₀ grid px py enemies count i =
-    (i ≤ AREA) × (length grid ≡ AREA) × (readFrom text i (soFar grid px py enemies count) ≡ readFrom text 0 unread)
+Inv-loop text grid px₀ py₀ enemies₀ count₀ i₀ px py enemies count i =
+    (i ≤ AREA) × (readFrom text i (soFar (tiledTo text i) px py enemies count) ≡ readFrom text 0 unread)
 
 abbrev μ-loop : tie.MeasureT-loop
-μ-loop text grid₀ px₀ py₀ enemies₀ count₀ i₀ grid px py enemies count i = AREA - i
+μ-loop text grid px₀ py₀ enemies₀ count₀ i₀ px py enemies count i = AREA - i
+
+tiles-of-requires : tie.Need-tiles-of-requires Inv-loop μ-loop
+tiles-of-requires c κs = search needs
 
 loop-holds : tie.Need-loop-holds Inv-loop μ-loop
-loop-holds c = (omega arith, refl, refl)
+loop-holds c = (omega arith, ap (λ (g : List ℕ). readFrom (c .before .args .text .now) 0 (withGrid unread g)) (sym (table-none _ _)))
 
 element-copy-out-c : tie.Need-element-copy-out-c Inv-loop μ-loop
-element-copy-out-c c = omega (arith, c .before .before .pre)
-
-tile-of-requires : tie.Need-tile-of-requires Inv-loop μ-loop
-tile-of-requires c κs = tt
-
-array-write-grid : tie.Need-array-write-grid Inv-loop μ-loop
-array-write-grid c = omega arith
+element-copy-out-c c = omega (arith, c .before .before .before .pre)
 
 add-i : tie.Need-add-i Inv-loop μ-loop
 add-i c = omega arith
@@ -37,11 +36,8 @@ loop-less c = omega arith
 
 loop-again : tie.Need-loop-again Inv-loop μ-loop
 loop-again c =
-    let k = c .before .before .before .before in
-    let t = c .before in
-    let s = soFar (k .loop .grid) (k .loop .px) (k .loop .py) (k .loop .enemies) (k .loop .count) in
-    let text = k .before .args .text .now in
-    (omega arith, simp length-set (k .loop .inv .1), read-more text (k .loop .i) s _ (t .before .before .loop-test .taken) (read-player text s (k .loop .i) (t .tile-of .result) (t .tile-of .ensures) (c .match .keys1)) (k .loop .inv .2))
+    let k = c .before .before .before in
+    (omega arith, read-player (k .before .before .args .text .now) (k .loop .i) (k .loop .px) (k .loop .py) (k .loop .enemies) (k .loop .count) (k .loop .inv .1) (omega arith) (c .match .keys1))
 
 mul-enemies : tie.Need-mul-enemies Inv-loop μ-loop
 mul-enemies c = omega arith
@@ -57,36 +53,27 @@ loop-less-2 c = omega arith
 
 loop-again-2 : tie.Need-loop-again-2 Inv-loop μ-loop
 loop-again-2 c =
-    let k = c .before .before .before .before .before in
-    let t = c .before .before in
-    let s = soFar (k .loop .grid) (k .loop .px) (k .loop .py) (k .loop .enemies) (k .loop .count) in
-    let text = k .before .args .text .now in
-    (omega arith, simp length-set (k .loop .inv .1), read-more text (k .loop .i) s _ (t .before .before .loop-test .taken) (read-creature text s (k .loop .i) (t .tile-of .result) (t .tile-of .ensures) (c .before .match .keys2) ∙ simp (lt-ltb _ _ (c .if1 .taken))) (k .loop .inv .2))
+    let k = c .before .before .before .before in
+    (omega arith, read-creature (k .before .before .args .text .now) (k .loop .i) (k .loop .px) (k .loop .py) (k .loop .enemies) (k .loop .count) (k .loop .inv .1) (omega arith) (c .before .match .keys2) (simp (lt-ltb _ _ (c .if1 .taken))))
 
 loop-less-3 : tie.Need-loop-less-3 Inv-loop μ-loop
 loop-less-3 c = omega arith
 
 loop-again-3 : tie.Need-loop-again-3 Inv-loop μ-loop
 loop-again-3 c =
-    let k = c .before .before .before .before .before in
-    let t = c .before .before in
-    let s = soFar (k .loop .grid) (k .loop .px) (k .loop .py) (k .loop .enemies) (k .loop .count) in
-    let text = k .before .args .text .now in
-    (omega arith, simp length-set (k .loop .inv .1), read-more text (k .loop .i) s _ (t .before .before .loop-test .taken) (read-creature text s (k .loop .i) (t .tile-of .result) (t .tile-of .ensures) (c .before .match .keys2) ∙ simp (le-ltb _ _ (c .if1 .left))) (k .loop .inv .2))
+    let k = c .before .before .before .before in
+    (omega arith, read-creature (k .before .before .args .text .now) (k .loop .i) (k .loop .px) (k .loop .py) (k .loop .enemies) (k .loop .count) (k .loop .inv .1) (omega arith) (c .before .match .keys2) (simp (le-ltb _ _ (c .if1 .left))))
 
 loop-less-4 : tie.Need-loop-less-4 Inv-loop μ-loop
 loop-less-4 c = omega arith
 
 loop-again-4 : tie.Need-loop-again-4 Inv-loop μ-loop
 loop-again-4 c =
-    let k = c .before .before .before .before in
-    let t = c .before in
-    let s = soFar (k .loop .grid) (k .loop .px) (k .loop .py) (k .loop .enemies) (k .loop .count) in
-    let text = k .before .args .text .now in
-    (omega arith, simp length-set (k .loop .inv .1), read-more text (k .loop .i) s _ (t .before .before .loop-test .taken) (read-tile text s (k .loop .i) (t .tile-of .result) (t .tile-of .ensures) (c .match .rest .0 .1) (c .match .rest .1)) (k .loop .inv .2))
+    let k = c .before .before .before in
+    (omega arith, read-tile (k .before .before .args .text .now) (k .loop .i) (k .loop .px) (k .loop .py) (k .loop .enemies) (k .loop .count) (k .loop .inv .1) (omega arith) (c .match .rest .0 .1) (c .match .rest .1))
 
 coin-count-requires : tie.Need-coin-count-requires Inv-loop μ-loop
-coin-count-requires c κs = c .before .before .loop .inv .1
+coin-count-requires c κs = search needs
 
 cast-asked : tie.Need-cast-asked Inv-loop μ-loop
 cast-asked c = search needs
@@ -98,17 +85,15 @@ returns : tie.Need-returns Inv-loop μ-loop
 returns c =
     let n = c .before in
     let k = n .before .before .before in
-    let s = soFar (k .loop .grid) (k .loop .px) (k .loop .py) (k .loop .enemies) (k .loop .count) in
-    let text = k .before .args .text .now in
-    asked text s (n .coin-count .result) _ (read-done text (k .loop .i) s (n .before .before .loop-test .left) (k .loop .inv .2)) (n .coin-count .ensures .0) (simp (eq-eqb _ _ (c .if2 .taken)))
+    let e = read-done (k .before .before .args .text .now) (k .loop .i) (k .loop .px) (k .loop .py) (k .loop .enemies) (k .loop .count) (k .loop .inv .1) (omega arith) (k .before .tiles-of .ensures) in
+    asked (k .before .before .args .text .now) _ (n .coin-count .result) _ e (n .coin-count .ensures .0) (simp (eq-eqb _ _ (c .if2 .taken)))
 
 returns-2 : tie.Need-returns-2 Inv-loop μ-loop
 returns-2 c =
     let n = c .before in
     let k = n .before .before .before in
-    let s = soFar (k .loop .grid) (k .loop .px) (k .loop .py) (k .loop .enemies) (k .loop .count) in
-    let text = k .before .args .text .now in
-    asked text s (n .coin-count .result) _ (read-done text (k .loop .i) s (n .before .before .loop-test .left) (k .loop .inv .2)) (n .coin-count .ensures .0) (simp (ne-eqb _ _ (c .if2 .left)))
+    let e = read-done (k .before .before .args .text .now) (k .loop .i) (k .loop .px) (k .loop .py) (k .loop .enemies) (k .loop .count) (k .loop .inv .1) (omega arith) (k .before .tiles-of .ensures) in
+    asked (k .before .before .args .text .now) _ (n .coin-count .result) _ e (n .coin-count .ensures .0) (simp (ne-eqb _ _ (c .if2 .left)))
 
 pub mine-of-spec : {M : Type 1} → statement M
 mine-of-spec =
@@ -116,10 +101,9 @@ mine-of-spec =
     (tie.spec
     Inv-loop
     μ-loop
+    tiles-of-requires
     loop-holds
     element-copy-out-c
-    tile-of-requires
-    array-write-grid
     add-i
     loop-less
     loop-again
