@@ -1,5 +1,5 @@
 -- The largest code tells whether all are codes, and whether one is line. Assumes nothing.
-use mathlib.Core.Bool.{Bool, true, false, cond, _&&_, _||_, and-true, and-false, and-assoc, or-false, or-assoc}
+use mathlib.Core.Bool.{Bool, true, false, cond, _&&_, _||_, and-true, and-assoc, or-false, or-assoc}
 use mathlib.Core.List.{List, [], _∷_}
 use mathlib.Core.Logic.{⊎-elim}
 use mathlib.Core.Path.{_≡_, refl, sym, _∙_, ap, subst}
@@ -9,7 +9,7 @@ use lib.Dec.{ltb}
 use lib.ListN.{drop}
 use borrow.Author.Tests.{ltb-true, ltb-false, leb-true, le-leb, eqb-false, ne-eqb, lt-ltb, le-ltb}
 use Rattle.laws.specs.Lists.{all, any}
-use Rattle.laws.proofs.Choice.{and-left, bool-cases}
+use Rattle.laws.proofs.Choice.{and-left, bool-cases, larger-leb}
 use Rattle.cutter_ground.specs.Cells.{CB-TRAIL}
 use Rattle.cutter_state.specs.WellFormed.{isCode, isTrail}
 use Rattle.cutter_check.specs.CodePasses.{largestOf}
@@ -32,14 +32,6 @@ largest-end l i m h e = sym (ap (largestOf m) h) ∙ e
 
 -- ---- of two codes, and of all
 
-both-codes : (b : Bool) (m k : ℕ) → ltb m k ≡ b → isCode (cond b k m) ≡ (isCode m && isCode k)
-both-codes true m k e =
-    ⊎-elim (λ (h : isCode k ≡ true). simp (h, le-leb m 2 (omega (arith, ltb-true m k e, leb-true k 2 h))))
-    (λ (h : isCode k ≡ false). simp (h, and-false)) (bool-cases (isCode k))
-both-codes false m k e =
-    ⊎-elim (λ (h : isCode m ≡ true). simp (h, le-leb k 2 (omega (arith, ltb-false m k e, leb-true m 2 h))))
-    (λ (h : isCode m ≡ false). simp h) (bool-cases (isCode m))
-
 one-line : (b : Bool) (m k : ℕ) → ltb m k ≡ b → isCode (cond b k m) ≡ true → isTrail (cond b k m) ≡ (isTrail m || isTrail k)
 one-line true m k e h = simp (ne-eqb m 2 (λ z. omega (arith, ltb-true m k e, leb-true k 2 h)))
 one-line false m k e h =
@@ -52,7 +44,7 @@ unfolding largestOf
 codes-from m [] = sym (and-true (isCode m))
 codes-from m (k ∷ g) =
     codes-from (cond (ltb m k) k m) g
-    ∙ ap (λ (b : Bool). b && all isCode g) (both-codes (ltb m k) m k refl)
+    ∙ ap (λ (b : Bool). b && all isCode g) (larger-leb m k CB-TRAIL)
     ∙ and-assoc (isCode m) (isCode k) (all isCode g)
 
 line-from : (m : ℕ) (g : List ℕ) → isCode (largestOf m g) ≡ true → isTrail (largestOf m g) ≡ (isTrail m || any isTrail g)

@@ -1,10 +1,11 @@
 -- Choice by a test, cases of an order and an equation, and what `&&` and `||` tell of their parts. Assumes nothing.
-use mathlib.Core.Bool.{Bool, true, false, cond, not, _&&_, _||_, true≢false, false≢true}
-use mathlib.Core.Logic.{_⊎_, inl, inr}
+use mathlib.Core.Bool.{Bool, true, false, cond, not, _&&_, _||_, and-false, true≢false, false≢true}
+use mathlib.Core.Logic.{_⊎_, inl, inr, ⊎-elim}
 use mathlib.Core.Path.{_≡_, refl}
 use Prim.Native.Nat.{ℕ, _≤_, _<_}
+use native.Mathlib.Omega.{arith}
 use lib.Dec.{ltb, leb, eqb}
-use borrow.Author.Tests.{ltb-true, ltb-false, eqb-true, eqb-false, le-leb, lt-leb}
+use borrow.Author.Tests.{ltb-true, ltb-false, leb-true, eqb-true, eqb-false, le-leb, lt-leb}
 
 -- what holds of both answers of a test, each under its own outcome, holds of the one that `cond` picks
 pub cond-both : {A : Type 0} (P : A → Type 0) (b : Bool) (u v : A) → (b ≡ true → P u) → (b ≡ false → P v) → P (cond b u v)
@@ -68,3 +69,15 @@ leb-not-ltb a b = go (ltb b a) refl
     go : (t : Bool) → ltb b a ≡ t → leb a b ≡ not t
     go true e = lt-leb a b (ltb-true b a e)
     go false e = le-leb a b (ltb-false b a e)
+
+-- the larger of two numbers is at most n where both are
+pub larger-leb : (m k n : ℕ) → leb (cond (ltb m k) k m) n ≡ (leb m n && leb k n)
+larger-leb m k n = go (ltb m k) refl
+  where
+    go : (b : Bool) → ltb m k ≡ b → leb (cond b k m) n ≡ (leb m n && leb k n)
+    go true e =
+        ⊎-elim (λ (h : leb k n ≡ true). simp (h, le-leb m n (omega (arith, ltb-true m k e, leb-true k n h))))
+        (λ (h : leb k n ≡ false). simp (h, and-false)) (bool-cases (leb k n))
+    go false e =
+        ⊎-elim (λ (h : leb m n ≡ true). simp (h, le-leb k n (omega (arith, ltb-false m k e, leb-true m n h))))
+        (λ (h : leb m n ≡ false). simp h) (bool-cases (leb m n))

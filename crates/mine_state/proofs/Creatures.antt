@@ -1,13 +1,13 @@
--- The creatures of a state: a loop that asks whether two stand on one cell, and who is found. Assumes nothing.
-use mathlib.Core.Bool.{Bool, true, false, _&&_}
+-- The creatures of a state: who is found, and where they stand. Assumes nothing.
+use mathlib.Core.Bool.{true, _&&_}
 use mathlib.Core.List.{List, [], _∷_}
 use mathlib.Core.Path.{_≡_, refl}
-use Prim.Native.Nat.{ℕ, zero, suc, _+_, _<_, _≤_}
+use Prim.Native.Nat.{ℕ, zero, suc, _<_, _≤_}
 use native.Mathlib.Omega.{arith}
 use lib.Dec.{eqb, leb}
 use lib.ListN.{getD, drop, take, length-take}
 use borrow.Author.Tests.{eqb-true, leb-true}
-use Rattle.laws.specs.Lists.{all, any}
+use Rattle.laws.specs.Lists.{all}
 use Rattle.laws.proofs.Choice.{and-left, and-right, and-both}
 use Rattle.laws.proofs.Lists.{all-at}
 use Rattle.found.specs.declared.Found.the-variants.{At}
@@ -15,17 +15,9 @@ use Rattle.found.proofs.First.{first-bound}
 use Rattle.mine_state.specs.declared.Mine.{Mine}
 use Rattle.mine_state.specs.declared.Enemy.{Enemy}
 use Rattle.mine_state.specs.State.{W, H, onGrid, codeIn, EMPTY, emptyAt, creatures, standsAt, firstAt, blankSlot}
-use Rattle.mine_state.specs.WellFormed.{creatureOk, apart, isBlank}
+use Rattle.mine_state.specs.WellFormed.{creatureOk, isBlank}
 use Rattle.mine_state.proofs.Cells.{on-grid}
 use Rattle.mine_state.specs.CodeState.{onMap, allOnMap}
-
--- A loop that asks of each creature whether a later one stands on its cell.
-module _ (l : List Enemy) (i : ℕ) {R : Bool} {e : Enemy} (h : drop i l ≡ e ∷ drop (i + 1) l) (q : apart (drop i l) ≡ R) where
-  pub apart-more : any (standsAt (e .x) (e .y)) (drop (i + 1) l) ≡ false → apart (drop (i + 1) l) ≡ R
-  apart-more t = rw (h, t) at q
-
-  pub apart-fails : any (standsAt (e .x) (e .y)) (drop (i + 1) l) ≡ true → false ≡ R
-  apart-fails t = rw (h, t) at q
 
 -- who is found is one of the creatures
 pub found-below : (m : Mine) (x y i n : ℕ) → firstAt m x y ≡ At i n → i < m .count
