@@ -2,9 +2,9 @@
 // a step and a move beside them: so the library is compiled as one for a host is, where calls and passes share the rules.
 use cutter::CutterAnswer;
 use cutter::Ground;
+use cutter_ground::Mover;
 use cutter_state::Cutter;
 use found::Found;
-use cutter_ground::Mover;
 use mine::MineAnswer;
 use mine_state::Enemy;
 use mine_state::Mine;

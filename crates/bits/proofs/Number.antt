@@ -108,7 +108,8 @@ number-cat n zero f = rw add-zero (omega arith)
 number-cat n (suc m) f =
     rw add-suc
     (ap (λ (x : ℕ). bit (f (n + m)) * 2 ^ (n + m) + x) (number-cat n m f)
-    ∙ ap (λ (x : ℕ). x + (number m (λ k. f (n + k)) * 2 ^ n + number n f)) (ap (λ (x : ℕ). bit (f (n + m)) * x) (pow-add 2 n m ∙ mul-comm (2 ^ n) (2 ^ m)) ∙ sym (mul-assoc (bit (f (n + m))) (2 ^ m) (2 ^ n)))
+    ∙ ap (λ (x : ℕ). x + (number m (λ k. f (n + k)) * 2 ^ n + number n f))
+    (ap (λ (x : ℕ). bit (f (n + m)) * x) (pow-add 2 n m ∙ mul-comm (2 ^ n) (2 ^ m)) ∙ sym (mul-assoc (bit (f (n + m))) (2 ^ m) (2 ^ n)))
     ∙ sym (add-assoc (bit (f (n + m)) * 2 ^ m * 2 ^ n) (number m (λ k. f (n + k)) * 2 ^ n) (number n f))
     ∙ ap (λ (x : ℕ). x + number n f) (sym (add-mul (bit (f (n + m)) * 2 ^ m) (number m (λ k. f (n + k))) (2 ^ n))))
 
@@ -161,7 +162,8 @@ bit-number n f k h =
     rw e at (bit-number+ k (n - (k + 1)) f)
 
 -- ink on ink, then some bits inverted, then some cleared
-pub number-marked : (n : ℕ) (a b c d : ℕ → Bool) → bitAnd (bitXor (bitOr (number n a) (number n b)) (number n c)) (2 ^ n - 1 - number n d) ≡ number n (λ j. xor (a j || b j) (c j) && not (d j))
+pub number-marked : (n : ℕ) (a b c d : ℕ → Bool)
+    → bitAnd (bitXor (bitOr (number n a) (number n b)) (number n c)) (2 ^ n - 1 - number n d) ≡ number n (λ j. xor (a j || b j) (c j) && not (d j))
 number-marked n a b c d =
     ap₂ bitAnd (ap (λ (x : ℕ). bitXor x (number n c)) (number-or n a b) ∙ number-xor n (λ j. a j || b j) c) (number-not n d)
     ∙ number-and n (λ j. xor (a j || b j) (c j)) (λ j. not (d j))

@@ -112,7 +112,8 @@ tally-some v (x ∷ l) (suc c) d h e = up (eqb x v) (count (λ y. eqb y v) l) (t
     up false n h = h
 
 -- two lists that pass their tests at the same places have the same count
-pub count-same : {A B : Type 0} (f : A → Bool) (g : B → Bool) (l : List A) (m : List B) (d : A) (e : B) → length l ≡ length m → ((c : ℕ) → c < length l → f (getD l c d) ≡ g (getD m c e)) → count f l ≡ count g m
+pub count-same : {A B : Type 0} (f : A → Bool) (g : B → Bool) (l : List A) (m : List B) (d : A) (e : B) → length l ≡ length m
+    → ((c : ℕ) → c < length l → f (getD l c d) ≡ g (getD m c e)) → count f l ≡ count g m
 count-same f g [] [] d e h s = refl
 count-same f g [] (y ∷ m) d e h s = absurd (omega arith)
 count-same f g (x ∷ l) [] d e h s = absurd (omega arith)
@@ -124,7 +125,8 @@ count-same f g (x ∷ l) (y ∷ m) d e h s =
 pub eqb-iff : (x a y b : ℕ) → (x ≡ a → y ≡ b) → (y ≡ b → x ≡ a) → eqb x a ≡ eqb y b
 eqb-iff x a y b f g = ⊎-elim (λ e. eq-eqb x a e ∙ sym (eq-eqb y b (f e))) (λ n. ne-eqb x a n ∙ sym (ne-eqb y b (λ e. n (g e)))) (same? x a)
 
-pub tally-same : (a b : ℕ) (l m : List ℕ) (d e : ℕ) → length l ≡ length m → ((c : ℕ) → (getD l c d ≡ a → getD m c e ≡ b) × (getD m c e ≡ b → getD l c d ≡ a)) → tally a l ≡ tally b m
+pub tally-same : (a b : ℕ) (l m : List ℕ) (d e : ℕ) → length l ≡ length m → ((c : ℕ) → (getD l c d ≡ a → getD m c e ≡ b) × (getD m c e ≡ b → getD l c d ≡ a))
+    → tally a l ≡ tally b m
 unfolding tally
 tally-same a b l m d e h s = count-same (λ x. eqb x a) (λ x. eqb x b) l m d e h (λ c k. eqb-iff (getD l c d) a (getD m c e) b (s c .0) (s c .1))
 
@@ -138,7 +140,8 @@ count-plus f g h s [] = omega arith
 count-plus f g h s (x ∷ l) = omega (arith, s x, count-plus f g h s l, one-less (f x) (count f l), one-less (g x) (count g l), one-less (h x) (count h l))
 
 -- a test that passes only where another does counts no more
-pub count-mono : {A : Type 0} (f : A → Bool) (l m : List A) (d : A) → length l ≡ length m → ((i : ℕ) → i < length l → f (getD l i d) ≡ true → f (getD m i d) ≡ true) → count f l ≤ count f m
+pub count-mono : {A : Type 0} (f : A → Bool) (l m : List A) (d : A) → length l ≡ length m → ((i : ℕ) → i < length l → f (getD l i d) ≡ true → f (getD m i d) ≡ true)
+    → count f l ≤ count f m
 count-mono f [] m d h s = omega arith
 count-mono f (x ∷ l) [] d h s = absurd (omega arith)
 count-mono f (x ∷ l) (y ∷ m) d h s = more (f x) (f y) (count f l) (count f m) (s 0 (omega arith)) (count-mono f l m d (omega arith) (λ i k. s (suc i) (omega arith)))

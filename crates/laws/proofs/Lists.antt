@@ -110,7 +110,8 @@ module _ {A : Type 0} (f : A → Bool) (l : List A) (i n : ℕ) {R : ℕ} where
 
 -- A loop that rewrites each element in place: those before i are done.
 module _ {A : Type 0} (f : A → A) where
-  pub map-more : (l : List A) (i : ℕ) (d : A) {R : List A} → i < length l → take i l ++ map f (drop i l) ≡ R → take (i + 1) (set l i (f (getD l i d))) ++ map f (drop (i + 1) (set l i (f (getD l i d)))) ≡ R
+  pub map-more : (l : List A) (i : ℕ) (d : A) {R : List A} → i < length l → take i l ++ map f (drop i l) ≡ R
+      → take (i + 1) (set l i (f (getD l i d))) ++ map f (drop (i + 1) (set l i (f (getD l i d)))) ≡ R
   map-more l i d h e =
       simp (add-one, take-suc-set l i (f (getD l i d)) h, drop-set-lt (suc i) l i (f (getD l i d)) (omega arith), append-snoc)
       (rw (drop-cons l i d h) at e)

@@ -51,4 +51,5 @@ module _ {A : Type 0} where
 pub all-table : {A : Type 0} (f : A → Bool) (n : ℕ) (p : ℕ → A) → ((k : ℕ) → k < n → f (p k) ≡ true) → all f (table n p) ≡ true
 unfolding table
 all-table f zero p h = refl
-all-table f (suc n) p h = all-append f (table n p) (p n ∷ []) ∙ and-both (all f (table n p)) (f (p n) && true) (all-table f n p (λ k l. h k (omega arith))) (and-both (f (p n)) true (h n (omega arith)) refl)
+all-table f (suc n) p h = all-append f (table n p) (p n ∷ [])
+    ∙ and-both (all f (table n p)) (f (p n) && true) (all-table f n p (λ k l. h k (omega arith))) (and-both (f (p n)) true (h n (omega arith)) refl)

@@ -23,14 +23,16 @@ module _ {A B C : Type 0} (p : A → B → C) where
   getD-zipWith (x ∷ l) (y ∷ m) zero a b c h k = refl
   getD-zipWith (x ∷ l) (y ∷ m) (suc i) a b c h k = getD-zipWith l m i a b c (le-of-suc-le-suc h) (le-of-suc-le-suc k)
 
-pub zipWith-map : {A B C D : Type 0} (p : A → C → D) (q : A → B → D) (f : B → C) → ((x : A) (y : B) → p x (f y) ≡ q x y) → (l : List A) (m : List B) → zipWith p l (map f m) ≡ zipWith q l m
+pub zipWith-map : {A B C D : Type 0} (p : A → C → D) (q : A → B → D) (f : B → C) → ((x : A) (y : B) → p x (f y) ≡ q x y) → (l : List A) (m : List B)
+    → zipWith p l (map f m) ≡ zipWith q l m
 unfolding zipWith
 zipWith-map p q f h [] m = refl
 zipWith-map p q f h (x ∷ l) [] = refl
 zipWith-map p q f h (x ∷ l) (y ∷ m) = rw (h x y, zipWith-map p q f h l m)
 
 -- what holds of each element made of two
-pub all-zipWith : {A B C : Type 0} (p : A → B → C) (f : C → Bool) (g : A → Bool) → ((x : A) (y : B) → g x ≡ true → f (p x y) ≡ true) → (l : List A) (m : List B) → all g l ≡ true → all f (zipWith p l m) ≡ true
+pub all-zipWith : {A B C : Type 0} (p : A → B → C) (f : C → Bool) (g : A → Bool) → ((x : A) (y : B) → g x ≡ true → f (p x y) ≡ true) → (l : List A) (m : List B)
+    → all g l ≡ true → all f (zipWith p l m) ≡ true
 unfolding zipWith
 all-zipWith p f g h [] m a = refl
 all-zipWith p f g h (x ∷ l) [] a = refl
@@ -42,7 +44,8 @@ bit-cond false n = omega arith
 
 -- counts of two lists add up to the count of what is made of them, or what is made loses the second's
 module _ {A B C : Type 0} (p : A → B → C) (f : C → Bool) (g : A → Bool) (h : B → Bool) (a : A) (b : B) where
-  pub count-zip-more : (l : List A) (m : List B) → length l ≡ length m → ((i : ℕ) → i < length l → bit (f (p (getD l i a) (getD m i b))) ≡ bit (g (getD l i a)) + bit (h (getD m i b))) → count f (zipWith p l m) ≡ count g l + count h m
+  pub count-zip-more : (l : List A) (m : List B) → length l ≡ length m
+      → ((i : ℕ) → i < length l → bit (f (p (getD l i a) (getD m i b))) ≡ bit (g (getD l i a)) + bit (h (getD m i b))) → count f (zipWith p l m) ≡ count g l + count h m
   unfolding zipWith
   count-zip-more [] [] e s = omega arith
   count-zip-more [] (y ∷ m) e s = absurd (omega arith)
@@ -51,7 +54,8 @@ module _ {A B C : Type 0} (p : A → B → C) (f : C → Bool) (g : A → Bool) 
       let i = count-zip-more l m (omega arith) (λ i k. s (suc i) (omega arith)) in
       omega (arith, s 0 (omega arith), bit-cond (f (p x y)) (count f (zipWith p l m)), bit-cond (g x) (count g l), bit-cond (h y) (count h m))
 
-  pub count-zip-less : (l : List A) (m : List B) → length l ≡ length m → ((i : ℕ) → i < length l → bit (f (p (getD l i a) (getD m i b))) + bit (h (getD m i b)) ≡ bit (g (getD l i a))) → count f (zipWith p l m) + count h m ≡ count g l
+  pub count-zip-less : (l : List A) (m : List B) → length l ≡ length m
+      → ((i : ℕ) → i < length l → bit (f (p (getD l i a) (getD m i b))) + bit (h (getD m i b)) ≡ bit (g (getD l i a))) → count f (zipWith p l m) + count h m ≡ count g l
   unfolding zipWith
   count-zip-less [] [] e s = omega arith
   count-zip-less [] (y ∷ m) e s = absurd (omega arith)

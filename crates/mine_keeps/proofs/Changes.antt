@@ -17,7 +17,8 @@ use Rattle.found.specs.declared.Found.the-variants.{At}
 use Rattle.found.proofs.First.{nobody-any}
 use Rattle.mine_state.specs.declared.Mine.{Mine}
 use Rattle.mine_state.specs.declared.Enemy.{Enemy}
-use Rattle.mine_state.specs.State.{AREA, MAX-ENEMIES, EMPTY, COIN, isCode, isCoin, isBoulder, place, codeIn, codeAt, emptyAt, playerAt, creatures, standsAt, firstAt, freeAt, purse, boulders}
+use Rattle.mine_state.specs.State.{AREA, MAX-ENEMIES, EMPTY, COIN, isCode, isCoin, isBoulder, place, codeIn, codeAt, emptyAt, playerAt, creatures}
+use Rattle.mine_state.specs.State.{standsAt, firstAt, freeAt, purse, boulders}
 use Rattle.mine_state.specs.Change.{withGrid, withMarks, withPlayer, withCreatures, withCreature, withCoins, killed, winner, withCell}
 use Rattle.mine_state.specs.WellFormed.{WellFormed, creatureOk, apart, isBlank}
 use Rattle.mine_state.proofs.Cells.{free-inside, free-empty, free-is-empty}
@@ -56,7 +57,19 @@ module _ {m s : Mine} (k : Kept m s) where
       → Kept m (record { grid = s .grid; falling = f; px = x; py = y; enemies = s .enemies; count = s .count; coins = s .coins; needed = s .needed; dead = d; won = v })
   kept-about f x y d v l e =
       record {
-        formed = record { cells = w .cells; marks = l; codes = w .codes; player = e; slots = w .slots; few = w .few; each = w .each; distinct = w .distinct; rest = w .rest; coins = w .coins; asked = w .asked };
+        formed = record {
+          cells = w .cells;
+          marks = l;
+          codes = w .codes;
+          player = e;
+          slots = w .slots;
+          few = w .few;
+          each = w .each;
+          distinct = w .distinct;
+          rest = w .rest;
+          coins = w .coins;
+          asked = w .asked;
+        };
         coins = k .coins;
         stones = k .stones;
       }
@@ -78,13 +91,26 @@ module _ {m s : Mine} (k : Kept m s) where
       → c + count isCoin g ≡ purse s → count isBoulder g ≡ boulders s → Kept m (withCoins (withGrid s g) c)
   kept-grid g c l o p e a b =
       record {
-        formed = record { cells = l; marks = w .marks; codes = o; player = p; slots = w .slots; few = w .few; each = e; distinct = w .distinct; rest = w .rest; coins = omega (arith, w .coins); asked = w .asked };
+        formed = record {
+          cells = l;
+          marks = w .marks;
+          codes = o;
+          player = p;
+          slots = w .slots;
+          few = w .few;
+          each = e;
+          distinct = w .distinct;
+          rest = w .rest;
+          coins = omega (arith, w .coins);
+          asked = w .asked;
+        };
         coins = a ∙ k .coins;
         stones = b ∙ k .stones;
       }
 
   -- a cell emptied, with c coins in the hand then
-  kept-emptied : (p c : ℕ) → c + count isCoin (set (s .grid) p EMPTY) ≡ purse s → count isBoulder (set (s .grid) p EMPTY) ≡ boulders s → Kept m (withCoins (withGrid s (set (s .grid) p EMPTY)) c)
+  kept-emptied : (p c : ℕ) → c + count isCoin (set (s .grid) p EMPTY) ≡ purse s → count isBoulder (set (s .grid) p EMPTY) ≡ boulders s
+      → Kept m (withCoins (withGrid s (set (s .grid) p EMPTY)) c)
   kept-emptied p c a b =
       kept-grid (set (s .grid) p EMPTY) c (simp length-set (w .cells)) (all-set isCode (s .grid) p EMPTY (w .codes) refl) (empty-dug (s .grid) p (s .px) (s .py) (w .player))
       (creatures-dug (s .grid) p (creatures s) (w .each)) a b
@@ -120,10 +146,23 @@ module _ {m s : Mine} (k : Kept m s) where
       (shifted-count g i nx ny (h .0) isBoulder refl b z)
 
   -- other creatures on the same ground
-  kept-creatures : (es : List Enemy) (n : ℕ) → length es ≡ MAX-ENEMIES → n ≤ MAX-ENEMIES → all (creatureOk (s .grid)) (take n es) ≡ true → apart (take n es) ≡ true → all isBlank (drop n es) ≡ true → Kept m (withCreatures s es n)
+  kept-creatures : (es : List Enemy) (n : ℕ) → length es ≡ MAX-ENEMIES → n ≤ MAX-ENEMIES → all (creatureOk (s .grid)) (take n es) ≡ true → apart (take n es) ≡ true
+      → all isBlank (drop n es) ≡ true → Kept m (withCreatures s es n)
   kept-creatures es n l f a b c =
       record {
-        formed = record { cells = w .cells; marks = w .marks; codes = w .codes; player = w .player; slots = l; few = f; each = a; distinct = b; rest = c; coins = w .coins; asked = w .asked };
+        formed = record {
+          cells = w .cells;
+          marks = w .marks;
+          codes = w .codes;
+          player = w .player;
+          slots = l;
+          few = f;
+          each = a;
+          distinct = b;
+          rest = c;
+          coins = w .coins;
+          asked = w .asked;
+        };
         coins = k .coins;
         stones = k .stones;
       }

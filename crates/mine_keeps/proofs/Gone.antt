@@ -34,7 +34,8 @@ module _ (l : List Enemy) (n i : ℕ) (h : i < n) (k : n ≤ length l) where
   after : take (n - 1) slots ≡ set front i last
   after =
       take-set-le (n - 1) (set l i last) (n - 1) blankSlot (omega arith)
-      ∙ ⊎-elim (λ b. take-set-lt (n - 1) l i last b) (λ b. take-set-le (n - 1) l i last b ∙ sym (set-out front i last (omega (arith, length-take-le (n - 1) l (omega arith))))) (below? i (n - 1))
+      ∙ ⊎-elim (λ b. take-set-lt (n - 1) l i last b)
+      (λ b. take-set-le (n - 1) l i last b ∙ sym (set-out front i last (omega (arith, length-take-le (n - 1) l (omega arith))))) (below? i (n - 1))
 
   pub gone-all : (f : Enemy → Bool) → all f (take n l) ≡ true → all f (take (n - 1) slots) ≡ true
   gone-all f a =

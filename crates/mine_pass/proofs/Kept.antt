@@ -37,4 +37,5 @@ pass-kept first second m keys time w =
     let k = keys-kept m keys w in
     cond-both P (m .won) _ _ (λ _. kept-self w)
     (λ _. cond-both P (m .dead) _ _ (λ _. kept-self w)
-    (λ _. cond-both P (played m keys .quit) _ _ (λ _. k) (λ _. kept-then k (paced-kept (played m keys .game) (bothTicks time first second GRAVITY-CYCLES ENEMY-CYCLES) (k .formed)))))
+    (λ _. cond-both P (played m keys .quit) _ _ (λ _. k)
+    (λ _. kept-then k (paced-kept (played m keys .game) (bothTicks time first second GRAVITY-CYCLES ENEMY-CYCLES) (k .formed)))))

@@ -11,7 +11,18 @@ use Rattle.mine_picture.specs.Picture.{left, cellLit, mineLit}
 
 -- all cells of one code, the player in a column of row 1, a creature at (1,1), so many coins in hand, 2 needed
 abbrev mineOf : ℕ → ℕ → ℕ → Mine
-mineOf t x coins = record { grid = replicate AREA t; falling = replicate AREA false; px = x; py = 1; enemies = record { x = 1; y = 1; dir = 0 } ∷ replicate 7 blankSlot; count = 1; coins = coins; needed = 2; dead = false; won = false }
+mineOf t x coins = record {
+  grid = replicate AREA t;
+  falling = replicate AREA false;
+  px = x;
+  py = 1;
+  enemies = record { x = 1; y = 1; dir = 0 } ∷ replicate 7 blankSlot;
+  count = 1;
+  coins = coins;
+  needed = 2;
+  dead = false;
+  won = false;
+}
 
 pub record Pixels : Type 0 where
   -- the cell (1,1), from the pixel (8,16): the creature's corner under the player, the player's hair and heel

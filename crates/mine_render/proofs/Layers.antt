@@ -46,7 +46,8 @@ module _ (frame₀ : List ℕ) (es : List Enemy) (cx cy : ℕ) where
   enemies-more i d frame h e =
       rw e
       (drawn-pack _||_ _ _
-      ∙ pack-ext _ _ (λ x y hx hy. layer (pixel frame₀ x y) (leb 8 y) (any (standsAt (cx + x / 8) (cy + (y - 8) / 8)) (take i es)) (standsAt (cx + x / 8) (cy + (y - 8) / 8) (getD es i d)) (artBit ENEMY-PAT (x % 8) ((y - 8) % 8))
+      ∙ pack-ext _ _ (λ x y hx hy. layer (pixel frame₀ x y) (leb 8 y) (any (standsAt (cx + x / 8) (cy + (y - 8) / 8)) (take i es))
+      (standsAt (cx + x / 8) (cy + (y - 8) / 8) (getD es i d)) (artBit ENEMY-PAT (x % 8) ((y - 8) % 8))
       ∙ ap (λ (b : Bool). pixel frame₀ x y || (leb 8 y && (b && artBit ENEMY-PAT (x % 8) ((y - 8) % 8)))) (sym (any-take (standsAt (cx + x / 8) (cy + (y - 8) / 8)) es i d h))))
 
 -- the whole picture: the tiles on a blank frame, the creatures on them, the player on these

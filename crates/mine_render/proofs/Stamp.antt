@@ -65,7 +65,8 @@ module _ (col row gx : ℕ) (cols : List ℕ) (hc : col < 16) (hr : row < 7) (hg
   column-here : getD cols gx 0 < 256 → getD cols gx 0 ≡ pageByte (λ x y. stampLit col row cols x y && eqb (x % 8) gx) ((row + 1) * 128 + col * 8 + gx)
   column-here h = byte-of (getD cols gx 0) h ∙ number-ext 8 _ _ go
     where
-      go : (j : ℕ) → j < 8 → bitAt (getD cols gx 0) j ≡ (stampLit col row cols (((row + 1) * 128 + col * 8 + gx) % 128) (((row + 1) * 128 + col * 8 + gx) / 128 * 8 + j) && eqb (((row + 1) * 128 + col * 8 + gx) % 128 % 8) gx)
+      go : (j : ℕ) → j < 8 → bitAt (getD cols gx 0) j
+          ≡ (stampLit col row cols (((row + 1) * 128 + col * 8 + gx) % 128) (((row + 1) * 128 + col * 8 + gx) / 128 * 8 + j) && eqb (((row + 1) * 128 + col * 8 + gx) % 128 % 8) gx)
       go j l =
           let p : ((row + 1) * 128 + col * 8 + gx) % 128 ≡ col * 8 + gx = omega arith in
           let q : ((row + 1) * 128 + col * 8 + gx) / 128 ≡ row + 1 = omega arith in
@@ -100,18 +101,21 @@ module _ (cx cy x y : ℕ) (hx : x < 128) (hy : y < 64) where
   pub stamp-sprite : (x₀ y₀ : ℕ) (pat : List ℕ) → cx ≤ x₀ → cy ≤ y₀ → stampLit (x₀ - cx) (y₀ - cy) (columnsOf pat) x y ≡ window cx cy (spriteLit x₀ y₀ pat) x y
   stamp-sprite x₀ y₀ pat lx ly = go (below? y 8) (same? (x / 8) (x₀ - cx)) (same? (y / 8) (y₀ - cy + 1))
     where
-      go : (y < 8) ⊎ (8 ≤ y) → (x / 8 ≡ x₀ - cx) ⊎ (x / 8 ≡ x₀ - cx → ⊥) → (y / 8 ≡ y₀ - cy + 1) ⊎ (y / 8 ≡ y₀ - cy + 1 → ⊥) → stampLit (x₀ - cx) (y₀ - cy) (columnsOf pat) x y ≡ window cx cy (spriteLit x₀ y₀ pat) x y
+      go : (y < 8) ⊎ (8 ≤ y) → (x / 8 ≡ x₀ - cx) ⊎ (x / 8 ≡ x₀ - cx → ⊥) → (y / 8 ≡ y₀ - cy + 1) ⊎ (y / 8 ≡ y₀ - cy + 1 → ⊥)
+          → stampLit (x₀ - cx) (y₀ - cy) (columnsOf pat) x y ≡ window cx cy (spriteLit x₀ y₀ pat) x y
       go (inl h) a b = rw (lt-leb 8 y h) (stamp-off (x₀ - cx) (y₀ - cy) x y (columnsOf pat) (λ d e. omega arith))
       go (inr h) (inl a) (inl b) =
           let q : (y - 8) % 8 ≡ y % 8 = omega arith in
           rw (le-leb 8 y h, eq-eqb x₀ (cx + x / 8) (omega arith), eq-eqb y₀ (cy + (y - 8) / 8) (omega arith), q) (stamp-on (x₀ - cx) (y₀ - cy) x y pat a b)
       go (inr h) (inl a) (inr b) =
-          rw (le-leb 8 y h, eq-eqb x₀ (cx + x / 8) (omega arith), ne-eqb y₀ (cy + (y - 8) / 8) (λ e. b (omega arith))) (stamp-off (x₀ - cx) (y₀ - cy) x y (columnsOf pat) (λ d e. b e))
+          rw (le-leb 8 y h, eq-eqb x₀ (cx + x / 8) (omega arith), ne-eqb y₀ (cy + (y - 8) / 8) (λ e. b (omega arith)))
+          (stamp-off (x₀ - cx) (y₀ - cy) x y (columnsOf pat) (λ d e. b e))
       go (inr h) (inr a) b =
           rw (le-leb 8 y h, ne-eqb x₀ (cx + x / 8) (λ e. a (omega arith))) (stamp-off (x₀ - cx) (y₀ - cy) x y (columnsOf pat) (λ d e. a d))
 
   -- the stamp of tile k
-  pub stamp-tile : (k : ℕ) (g : List ℕ) (o : Bool) → stampLit (k % 16) (k / 16) (columnsOf (artOf (codeIn g (cx + k % 16) (cy + k / 16)) o)) x y ≡ (window cx cy (tileLit g o) x y && eqb (tileNo x y) k)
+  pub stamp-tile : (k : ℕ) (g : List ℕ) (o : Bool)
+      → stampLit (k % 16) (k / 16) (columnsOf (artOf (codeIn g (cx + k % 16) (cy + k / 16)) o)) x y ≡ (window cx cy (tileLit g o) x y && eqb (tileNo x y) k)
   stamp-tile k g o = go (below? y 8) (same? (tileNo x y) k)
     where
       pat : List ℕ
@@ -129,16 +133,19 @@ module _ (cx cy x y : ℕ) (hx : x < 128) (hy : y < 64) where
           stamp-off (k % 16) (k / 16) x y (columnsOf pat) (λ d b. e (omega arith))
           ∙ sym (rw (ne-eqb (tileNo x y) k e) (and-false (window cx cy (tileLit g o) x y)))
 
-pub stamp-sprites : (cx cy x₀ y₀ : ℕ) (pat frame cols : List ℕ) → cx ≤ x₀ → cy ≤ y₀ → cols ≡ columnsOf pat → inked frame (stampLit (x₀ - cx) (y₀ - cy) cols) ≡ inked frame (window cx cy (spriteLit x₀ y₀ pat))
+pub stamp-sprites : (cx cy x₀ y₀ : ℕ) (pat frame cols : List ℕ) → cx ≤ x₀ → cy ≤ y₀ → cols ≡ columnsOf pat
+    → inked frame (stampLit (x₀ - cx) (y₀ - cy) cols) ≡ inked frame (window cx cy (spriteLit x₀ y₀ pat))
 stamp-sprites cx cy x₀ y₀ pat frame cols lx ly e =
     rw e (pack-ext _ _ (λ x y hx hy. ap (λ (b : Bool). pixel frame x y || b) (stamp-sprite cx cy x y hx hy x₀ y₀ pat lx ly)))
 
 -- one who stands on no cell of the window lights nothing
 module _ (cx cy x y : ℕ) (pat frame : List ℕ) (e : Framed frame) where
   pub outside : ((a b : ℕ) → a < 128 → b < 64 → x ≡ cx + a / 8 → y ≡ cy + (b - 8) / 8 → ⊥) → frame ≡ inked frame (window cx cy (spriteLit x y pat))
-  outside n = e ∙ pack-ext _ _ (λ a b ha hb. sym (ap (λ (t : Bool). pixel frame a b || t) (go a b (n a b ha hb) (same? x (cx + a / 8)) (same? y (cy + (b - 8) / 8))) ∙ or-false (pixel frame a b)))
+  outside n = e ∙ pack-ext _ _ (λ a b ha hb. sym
+      (ap (λ (t : Bool). pixel frame a b || t) (go a b (n a b ha hb) (same? x (cx + a / 8)) (same? y (cy + (b - 8) / 8))) ∙ or-false (pixel frame a b)))
     where
-      go : (a b : ℕ) → (x ≡ cx + a / 8 → y ≡ cy + (b - 8) / 8 → ⊥) → (x ≡ cx + a / 8) ⊎ (x ≡ cx + a / 8 → ⊥) → (y ≡ cy + (b - 8) / 8) ⊎ (y ≡ cy + (b - 8) / 8 → ⊥) → window cx cy (spriteLit x y pat) a b ≡ false
+      go : (a b : ℕ) → (x ≡ cx + a / 8 → y ≡ cy + (b - 8) / 8 → ⊥) → (x ≡ cx + a / 8) ⊎ (x ≡ cx + a / 8 → ⊥) → (y ≡ cy + (b - 8) / 8) ⊎ (y ≡ cy + (b - 8) / 8 → ⊥)
+          → window cx cy (spriteLit x y pat) a b ≡ false
       go a b m (inl p) (inl q) = absurd (m p q)
       go a b m (inl p) (inr q) = rw (eq-eqb x (cx + a / 8) p, ne-eqb y (cy + (b - 8) / 8) q) (and-false (leb 8 b))
       go a b m (inr p) q = rw (ne-eqb x (cx + a / 8) p) (and-false (leb 8 b))

@@ -12,7 +12,8 @@ use Rattle.found.specs.declared.Found.the-variants.{At, Nobody}
 use Rattle.mine_state.specs.declared.Mine.{Mine}
 use Rattle.mine_state.specs.State.{W, H, EMPTY, isCoin, codeAt, marked, emptyAt, playerAt, firstAt, freeAt}
 use Rattle.mine_state.specs.Change.{killed}
-use Rattle.mine_rules.specs.Gravity.{isObject, carried, rested, without, coinCollected, overPlayer, overCreature, overFound, overEmpty, openSide, rolled, overOther, cellFall, rowFall, gravityOf}
+use Rattle.mine_rules.specs.Gravity.{isObject, carried, rested, without, coinCollected, overPlayer, overCreature, overFound, overEmpty}
+use Rattle.mine_rules.specs.Gravity.{openSide, rolled, overOther, cellFall, rowFall, gravityOf}
 
 -- what the changes of a tick keep
 pub record Keeps (P : Mine → Type 0) : Type 0 where

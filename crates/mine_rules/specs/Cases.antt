@@ -32,7 +32,18 @@ pub record P1 : Type 0 where
 
 -- an empty mine without creatures, the player at (1,1)
 abbrev pub bare : Mine
-bare = record { grid = replicate AREA EMPTY; falling = replicate AREA false; px = 1; py = 1; enemies = replicate MAX-ENEMIES blankSlot; count = 0; coins = 0; needed = 1; dead = false; won = false }
+bare = record {
+  grid = replicate AREA EMPTY;
+  falling = replicate AREA false;
+  px = 1;
+  py = 1;
+  enemies = replicate MAX-ENEMIES blankSlot;
+  count = 0;
+  coins = 0;
+  needed = 1;
+  dead = false;
+  won = false;
+}
 
 -- with a mark at (x, y)
 abbrev pub withMark : Mine → ℕ → ℕ → Mine

@@ -15,7 +15,8 @@ creature x = record { x = x; y = 1; dir = 0 }
 
 -- all cells of one code, the player in a column of row 1, the slots, so many creatures, so many coins needed
 abbrev stateOf : ℕ → ℕ → List Enemy → ℕ → ℕ → Mine
-stateOf t x es n needed = record { grid = replicate AREA t; falling = replicate AREA false; px = x; py = 1; enemies = es; count = n; coins = 0; needed = needed; dead = false; won = false }
+stateOf t x es n needed = record
+    { grid = replicate AREA t; falling = replicate AREA false; px = x; py = 1; enemies = es; count = n; coins = 0; needed = needed; dead = false; won = false }
 
 abbrev zeros : List Enemy
 zeros = replicate MAX-ENEMIES blankSlot

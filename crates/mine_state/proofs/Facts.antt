@@ -61,8 +61,20 @@ accepted m e = facts m (none-well-formed m e)
 pub from-facts : (m : Mine) → WellFormed m → wellFormed m ≡ true
 unfolding wellFormed cellsOk creaturesOk numbersOk
 from-facts m w =
-    simp
-    (eq-eqb (length (m .grid)) AREA (w .cells), eq-eqb (length (m .falling)) AREA (w .marks), w .codes, w .player, eq-eqb (length (m .enemies)) MAX-ENEMIES (w .slots), le-leb (m .count) MAX-ENEMIES (w .few), w .each, w .distinct, w .rest, le-leb (purse m) AREA (w .coins), le-leb 1 (m .needed) (w .asked .0), le-leb (m .needed) AREA (w .asked .1))
+    simp (
+      eq-eqb (length (m .grid)) AREA (w .cells),
+      eq-eqb (length (m .falling)) AREA (w .marks),
+      w .codes,
+      w .player,
+      eq-eqb (length (m .enemies)) MAX-ENEMIES (w .slots),
+      le-leb (m .count) MAX-ENEMIES (w .few),
+      w .each,
+      w .distinct,
+      w .rest,
+      le-leb (purse m) AREA (w .coins),
+      le-leb 1 (m .needed) (w .asked .0),
+      le-leb (m .needed) AREA (w .asked .1),
+    )
 
 -- what the rules' code needs of a well-formed state
 pub sound : (m : Mine) → WellFormed m → Sound m

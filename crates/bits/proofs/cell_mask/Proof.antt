@@ -4,15 +4,6 @@ use Rattle.bits.proofs.Masks.{cell-in, cell-out}
 use Rattle.bits.proofs.cell_mask.Statement.{statement}
 use Rattle.bits.proofs.cell_mask.Tie as tie
 
-mul-result : tie.Need-mul-result
-mul-result c = search needs
-
-cast-result : tie.Need-cast-result
-cast-result c = search needs
-
-shl-result : tie.Need-shl-result
-shl-result c = search needs
-
 returns : tie.Need-returns
 returns c = let a = c .before .args in cell-in (a .cx) (a .cy) (a .p) (a .x) (c .if1 .taken)
 
@@ -20,4 +11,4 @@ returns-2 : tie.Need-returns-2
 returns-2 c = let a = c .before .args in cell-out (a .cx) (a .cy) (a .p) (a .x) (c .if1 .left)
 
 pub cell-mask-spec : {M : Type 1} → statement M
-cell-mask-spec = tie.close (tie.spec mul-result cast-result shl-result returns returns-2)
+cell-mask-spec = tie.close (tie.spec (λ c. search needs) (λ c. search needs) (λ c. search needs) returns returns-2)

@@ -19,7 +19,16 @@ use Rattle.mine_check.proofs.numbers_ok.Reads as numbers-ok-reads
 
 -- what the types of the parameter tell
 abbrev Began : Type 0
-Began = lts.Start (codes-ok-reads.Asked, codes-ok-reads.Learnt, empty-at-reads.Asked, empty-at-reads.Learnt, creatures-ok-reads.Asked, creatures-ok-reads.Learnt, numbers-ok-reads.Asked, numbers-ok-reads.Learnt) reads.Pre reads.Post
+Began = lts.Start (
+  codes-ok-reads.Asked,
+  codes-ok-reads.Learnt,
+  empty-at-reads.Asked,
+  empty-at-reads.Learnt,
+  creatures-ok-reads.Asked,
+  creatures-ok-reads.Learnt,
+  numbers-ok-reads.Asked,
+  numbers-ok-reads.Learnt,
+) reads.Pre reads.Post
 
 full : (s : Began) → length (s .args .m .enemies) ≡ MAX-ENEMIES
 full s = search (needs, mapped)
@@ -27,18 +36,12 @@ full s = search (needs, mapped)
 cells : (s : Began) {r : Bool} → r ≡ all isCode (s .args .m .grid) → cellsOk (s .args .m) ≡ r
 cells s e = cells-ok (s .args .m) (search needs) (search needs) e
 
-codes-ok-requires : tie.Need-codes-ok-requires
-codes-ok-requires c κs = search needs
-
 returns : tie.Need-returns
 unfolding refusalOf
 returns c =
     let k = c .before in
     let s = k .before .before .before .before in
     simp (cells s (k .codes-ok .ensures) ∙ not-true _ (c .if1 .taken))
-
-empty-at-requires : tie.Need-empty-at-requires
-empty-at-requires c κs = search needs
 
 returns-2 : tie.Need-returns-2
 unfolding refusalOf
@@ -48,9 +51,6 @@ returns-2 c =
     let s = k .before .before .before .before in
     simp (cells s (k .codes-ok .ensures) ∙ not-false _ (p .before .before .if1 .left), sym (p .empty-at .ensures) ∙ not-true _ (c .if2 .taken))
 
-creatures-ok-requires : tie.Need-creatures-ok-requires
-creatures-ok-requires c κs = search needs
-
 returns-3 : tie.Need-returns-3
 unfolding refusalOf creaturesOk
 returns-3 c =
@@ -58,11 +58,13 @@ returns-3 c =
     let p = e .before .before .before in
     let k = p .before .before .before in
     let s = k .before .before .before .before in
-    simp
-    (cells s (k .codes-ok .ensures) ∙ not-false _ (p .before .before .if1 .left), sym (p .empty-at .ensures) ∙ not-false _ (e .before .before .if2 .left), eq-eqb _ _ (full s), sym (e .creatures-ok .ensures) ∙ not-true _ (c .if3 .taken))
-
-numbers-ok-requires : tie.Need-numbers-ok-requires
-numbers-ok-requires c κs = search needs
+    simp (
+      cells s (k .codes-ok .ensures) ∙ not-false _ (p .before .before .if1 .left),
+      sym (p .empty-at .ensures)
+          ∙ not-false _ (e .before .before .if2 .left),
+      eq-eqb _ _ (full s),
+      sym (e .creatures-ok .ensures) ∙ not-true _ (c .if3 .taken),
+    )
 
 returns-4 : tie.Need-returns-4
 unfolding refusalOf creaturesOk numbersOk
@@ -72,8 +74,15 @@ returns-4 c =
     let p = e .before .before .before in
     let k = p .before .before .before in
     let s = k .before .before .before .before in
-    simp
-    (cells s (k .codes-ok .ensures) ∙ not-false _ (p .before .before .if1 .left), sym (p .empty-at .ensures) ∙ not-false _ (e .before .before .if2 .left), eq-eqb _ _ (full s), sym (e .creatures-ok .ensures) ∙ not-false _ (n .before .before .if3 .left), sym (n .numbers-ok .ensures) ∙ not-true _ (c .if4 .taken))
+    simp (
+      cells s (k .codes-ok .ensures) ∙ not-false _ (p .before .before .if1 .left),
+      sym (p .empty-at .ensures)
+          ∙ not-false _ (e .before .before .if2 .left),
+      eq-eqb _ _ (full s),
+      sym (e .creatures-ok .ensures)
+          ∙ not-false _ (n .before .before .if3 .left),
+      sym (n .numbers-ok .ensures) ∙ not-true _ (c .if4 .taken),
+    )
 
 returns-5 : tie.Need-returns-5
 unfolding refusalOf creaturesOk numbersOk
@@ -83,19 +92,26 @@ returns-5 c =
     let p = e .before .before .before in
     let k = p .before .before .before in
     let s = k .before .before .before .before in
-    simp
-    (cells s (k .codes-ok .ensures) ∙ not-false _ (p .before .before .if1 .left), sym (p .empty-at .ensures) ∙ not-false _ (e .before .before .if2 .left), eq-eqb _ _ (full s), sym (e .creatures-ok .ensures) ∙ not-false _ (n .before .before .if3 .left), sym (n .numbers-ok .ensures) ∙ not-false _ (c .if4 .left))
+    simp (
+      cells s (k .codes-ok .ensures) ∙ not-false _ (p .before .before .if1 .left),
+      sym (p .empty-at .ensures)
+          ∙ not-false _ (e .before .before .if2 .left),
+      eq-eqb _ _ (full s),
+      sym (e .creatures-ok .ensures)
+          ∙ not-false _ (n .before .before .if3 .left),
+      sym (n .numbers-ok .ensures) ∙ not-false _ (c .if4 .left),
+    )
 
 pub check-spec : {M : Type 1} → statement M
 check-spec =
     tie.close
     (tie.spec
-    codes-ok-requires
+    (λ c κs. search needs)
     returns
-    empty-at-requires
+    (λ c κs. search needs)
     returns-2
-    creatures-ok-requires
+    (λ c κs. search needs)
     returns-3
-    numbers-ok-requires
+    (λ c κs. search needs)
     returns-4
     returns-5)

@@ -20,36 +20,15 @@ abbrev μ-loop : tie.MeasureT-loop
 loop-holds : tie.Need-loop-holds Inv-loop μ-loop
 loop-holds c = (omega arith, omega arith, omega arith, refl, refl)
 
-element-copy-out-upper : tie.Need-element-copy-out-upper Inv-loop μ-loop
-element-copy-out-upper c = search needs
-
-cast-upper : tie.Need-cast-upper Inv-loop μ-loop
-cast-upper c = search needs
-
 add-upper : tie.Need-add-upper Inv-loop μ-loop
 add-upper c =
     let k = c .before .before in
     omega (arith, flag-small (isCoin (getD (k .before .args .grid .now) (k .loop .i) 0)))
 
-add-lower : tie.Need-add-lower Inv-loop μ-loop
-add-lower c = search needs
-
-element-copy-out-lower : tie.Need-element-copy-out-lower Inv-loop μ-loop
-element-copy-out-lower c = search needs
-
-cast-lower : tie.Need-cast-lower Inv-loop μ-loop
-cast-lower c = search needs
-
 add-lower-2 : tie.Need-add-lower-2 Inv-loop μ-loop
 add-lower-2 c =
     let k = c .before .before .before in
     omega (arith, flag-small (isCoin (getD (k .before .args .grid .now) (HALF + k .loop .i) 0)))
-
-add-i : tie.Need-add-i Inv-loop μ-loop
-add-i c = search needs
-
-loop-less : tie.Need-loop-less Inv-loop μ-loop
-loop-less c = search needs
 
 loop-again : tie.Need-loop-again Inv-loop μ-loop
 loop-again c =
@@ -63,15 +42,6 @@ loop-again c =
       coins-more g (k .loop .i) (k .loop .upper) (k .loop .inv .3) (omega arith),
       rw (getD-drop HALF g (k .loop .i) 0) at (coins-more (drop HALF g) (k .loop .i) (k .loop .lower) (k .loop .inv .4) rest),
     )
-
-cast-result : tie.Need-cast-result Inv-loop μ-loop
-cast-result c = search needs
-
-cast-result-2 : tie.Need-cast-result-2 Inv-loop μ-loop
-cast-result-2 c = search needs
-
-add-result : tie.Need-add-result Inv-loop μ-loop
-add-result c = search needs
 
 returns : tie.Need-returns Inv-loop μ-loop
 returns c =
@@ -90,17 +60,17 @@ coin-count-spec =
     Inv-loop
     μ-loop
     loop-holds
-    element-copy-out-upper
-    cast-upper
+    (λ c. search needs)
+    (λ c. search needs)
     add-upper
-    add-lower
-    element-copy-out-lower
-    cast-lower
+    (λ c. search needs)
+    (λ c. search needs)
+    (λ c. search needs)
     add-lower-2
-    add-i
-    loop-less
+    (λ c. search needs)
+    (λ c. search needs)
     loop-again
-    cast-result
-    cast-result-2
-    add-result
+    (λ c. search needs)
+    (λ c. search needs)
+    (λ c. search needs)
     returns)

@@ -38,12 +38,6 @@ returns c =
 loop-holds : tie.Need-loop-holds Inv-loop2 μ-loop2 Inv-loop μ-loop Inv-loop3 μ-loop3
 loop-holds c = refl
 
-mul-e : tie.Need-mul-e Inv-loop2 μ-loop2 Inv-loop μ-loop Inv-loop3 μ-loop3
-mul-e c = search needs
-
-array-copy-out-e : tie.Need-array-copy-out-e Inv-loop2 μ-loop2 Inv-loop μ-loop Inv-loop3 μ-loop3
-array-copy-out-e c = search needs
-
 creature-ok-requires :
     tie.Need-creature-ok-requires Inv-loop2 μ-loop2 Inv-loop μ-loop Inv-loop3 μ-loop3
 creature-ok-requires c κs = search needs
@@ -59,17 +53,8 @@ returns-2 c =
     (taken-one (s .args .n) l (k .loop .i) _ (omega arith) (omega arith))
     (sym (c .before .creature-ok .ensures) ∙ not-true _ (c .if2 .taken)))
 
-add-j : tie.Need-add-j Inv-loop2 μ-loop2 Inv-loop μ-loop Inv-loop3 μ-loop3
-add-j c = search needs
-
 loop2-holds : tie.Need-loop2-holds Inv-loop2 μ-loop2 Inv-loop μ-loop Inv-loop3 μ-loop3
 loop2-holds c = refl
-
-mul-d : tie.Need-mul-d Inv-loop2 μ-loop2 Inv-loop μ-loop Inv-loop3 μ-loop3
-mul-d c = search needs
-
-array-copy-out-d : tie.Need-array-copy-out-d Inv-loop2 μ-loop2 Inv-loop μ-loop Inv-loop3 μ-loop3
-array-copy-out-d c = search needs
 
 stands-at-requires :
     tie.Need-stands-at-requires Inv-loop2 μ-loop2 Inv-loop μ-loop Inv-loop3 μ-loop3
@@ -91,12 +76,6 @@ returns-3 c =
     (m .loop2 .inv)
     (sym (c .before .stands-at .ensures) ∙ c .if3 .taken))))
 
-add-j-2 : tie.Need-add-j-2 Inv-loop2 μ-loop2 Inv-loop μ-loop Inv-loop3 μ-loop3
-add-j-2 c = search needs
-
-loop2-less : tie.Need-loop2-less Inv-loop2 μ-loop2 Inv-loop μ-loop Inv-loop3 μ-loop3
-loop2-less c = search needs
-
 loop2-again : tie.Need-loop2-again Inv-loop2 μ-loop2 Inv-loop μ-loop Inv-loop3 μ-loop3
 loop2-again c =
     let m = c .before .before .before .before in
@@ -107,12 +86,6 @@ loop2-again c =
     (taken-one (s .args .n) l (m .loop2 .j) _ (omega arith) (omega arith))
     (m .loop2 .inv)
     (sym (c .before .stands-at .ensures) ∙ c .if3 .left)
-
-add-i : tie.Need-add-i Inv-loop2 μ-loop2 Inv-loop μ-loop Inv-loop3 μ-loop3
-add-i c = search needs
-
-loop-less : tie.Need-loop-less Inv-loop2 μ-loop2 Inv-loop μ-loop Inv-loop3 μ-loop3
-loop-less c = search needs
 
 loop-again : tie.Need-loop-again Inv-loop2 μ-loop2 Inv-loop μ-loop Inv-loop3 μ-loop3
 loop-again c =
@@ -128,9 +101,6 @@ loop-again c =
 
 loop3-holds : tie.Need-loop3-holds Inv-loop2 μ-loop2 Inv-loop μ-loop Inv-loop3 μ-loop3
 loop3-holds c = (search needs, refl)
-
-mul-e-2 : tie.Need-mul-e-2 Inv-loop2 μ-loop2 Inv-loop μ-loop Inv-loop3 μ-loop3
-mul-e-2 c = search needs
 
 array-copy-out-e-2 :
     tie.Need-array-copy-out-e-2 Inv-loop2 μ-loop2 Inv-loop μ-loop Inv-loop3 μ-loop3
@@ -151,12 +121,6 @@ returns-4 c =
     (sym (c .before .is-blank .ensures) ∙ not-true _ (c .if4 .taken))
     ∙ answer _ _ _ _ (le-leb _ _ (k .before .if1 .left))
     (right-end (s .args .grid .now) (take (s .args .n) l) (k .loop .i) (k .loop .inv) (taken-end (s .args .n) l (k .loop .i) (q .before .loop-test .left)))
-
-add-k : tie.Need-add-k Inv-loop2 μ-loop2 Inv-loop μ-loop Inv-loop3 μ-loop3
-add-k c = search needs
-
-loop3-less : tie.Need-loop3-less Inv-loop2 μ-loop2 Inv-loop μ-loop Inv-loop3 μ-loop3
-loop3-less c = search needs
 
 loop3-again : tie.Need-loop3-again Inv-loop2 μ-loop2 Inv-loop μ-loop Inv-loop3 μ-loop3
 loop3-again c =
@@ -192,28 +156,28 @@ creatures-ok-spec =
     μ-loop3
     returns
     loop-holds
-    mul-e
-    array-copy-out-e
+    (λ c. search needs)
+    (λ c. search needs)
     creature-ok-requires
     returns-2
-    add-j
+    (λ c. search needs)
     loop2-holds
-    mul-d
-    array-copy-out-d
+    (λ c. search needs)
+    (λ c. search needs)
     stands-at-requires
     returns-3
-    add-j-2
-    loop2-less
+    (λ c. search needs)
+    (λ c. search needs)
     loop2-again
-    add-i
-    loop-less
+    (λ c. search needs)
+    (λ c. search needs)
     loop-again
     loop3-holds
-    mul-e-2
+    (λ c. search needs)
     array-copy-out-e-2
     is-blank-requires
     returns-4
-    add-k
-    loop3-less
+    (λ c. search needs)
+    (λ c. search needs)
     loop3-again
     returns-5)

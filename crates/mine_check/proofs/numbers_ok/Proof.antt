@@ -14,17 +14,8 @@ returns c =
     let h : AREA < a .coins + count isCoin (now (a .grid)) = omega arith in
     simp (lt-leb _ AREA h)
 
-coin-count-requires : tie.Need-coin-count-requires
-coin-count-requires c κs = search needs
-
-cast-map : tie.Need-cast-map
-cast-map c = search needs
-
-add-result : tie.Need-add-result
-add-result c = search needs
-
 returns-2 : tie.Need-returns-2
 returns-2 c = rw (c .coin-count .ensures .0)
 
 pub numbers-ok-spec : {M : Type 1} → statement M
-numbers-ok-spec = tie.close (tie.spec returns coin-count-requires cast-map add-result returns-2)
+numbers-ok-spec = tie.close (tie.spec returns (λ c κs. search needs) (λ c. search needs) (λ c. search needs) returns-2)

@@ -55,8 +55,11 @@ loop-less c = omega arith
 loop-again : tie.Need-loop-again Inv-loop μ-loop
 loop-again c =
     let a = c .before .before .before .args in
-    let inv = c .before .before .loop .inv in
-    (omega arith, rw (inv .1) (column-more (a .col) (a .row) (c .before .before .loop .gx) (a .t4) (omega arith) (omega arith) (omega arith) (pixel (now (a .frame))) _ (omega arith) (c .before .before .before .pre .bytes _ (omega arith))))
+    let inv = c .before .before .loop .inv in (
+      omega arith,
+      rw (inv .1) (column-more (a .col) (a .row) (c .before .before .loop .gx) (a .t4) (omega arith) (omega arith) (omega arith) (pixel (now (a .frame))) _
+          (omega arith) (c .before .before .before .pre .bytes _ (omega arith))),
+    )
 
 same-length : tie.Need-same-length Inv-loop μ-loop
 same-length c = rw (c .before .loop .inv .1, length-pack) (sym (length-framed _ (c .before .before .pre .framed)))

@@ -12,9 +12,6 @@ returns c =
     let a = c .before .before .args in
     outside (a .cam-x) (a .cam-y) (a .x) (a .y) (a .pat) (now (a .frame)) (c .before .before .pre .framed) (λ u v hu hv p q. omega arith)
 
-add-if2 : tie.Need-add-if2
-add-if2 c = search needs
-
 returns-2 : tie.Need-returns-2
 returns-2 c =
     let a = c .before .before .before .args in
@@ -25,16 +22,10 @@ returns-3 c =
     let a = c .before .before .before .before .args in
     outside (a .cam-x) (a .cam-y) (a .x) (a .y) (a .pat) (now (a .frame)) (c .before .before .before .before .pre .framed) (λ u v hu hv p q. omega arith)
 
-add-if4 : tie.Need-add-if4
-add-if4 c = search needs
-
 returns-4 : tie.Need-returns-4
 returns-4 c =
     let a = c .before .before .before .before .before .args in
     outside (a .cam-x) (a .cam-y) (a .x) (a .y) (a .pat) (now (a .frame)) (c .before .before .before .before .before .pre .framed) (λ u v hu hv p q. omega arith)
-
-columns-requires : tie.Need-columns-requires
-columns-requires c κs = search needs
 
 blit-requires : tie.Need-blit-requires
 blit-requires c κs =
@@ -45,9 +36,6 @@ blit-requires c κs =
       across = omega arith;
       down = omega arith;
     }
-
-same-length : tie.Need-same-length
-same-length c = search needs
 
 returns-5 : tie.Need-returns-5
 returns-5 c =
@@ -60,12 +48,12 @@ draw-at-spec =
     tie.close
     (tie.spec
     returns
-    add-if2
+    (λ c. search needs)
     returns-2
     returns-3
-    add-if4
+    (λ c. search needs)
     returns-4
-    columns-requires
+    (λ c κs. search needs)
     blit-requires
-    same-length
+    (λ c. search needs)
     returns-5)

@@ -28,9 +28,6 @@ loop-holds c =
 mul-e : tie.Need-mul-e Inv-loop μ-loop
 mul-e c = omega arith
 
-array-copy-out-e : tie.Need-array-copy-out-e Inv-loop μ-loop
-array-copy-out-e c = search needs
-
 draw-at-requires : tie.Need-draw-at-requires Inv-loop μ-loop
 draw-at-requires c κs =
     record {
@@ -69,7 +66,7 @@ draw-enemies-spec =
     μ-loop
     loop-holds
     mul-e
-    array-copy-out-e
+    (λ c. search needs)
     draw-at-requires
     add-i
     loop-less

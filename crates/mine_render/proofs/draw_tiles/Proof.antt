@@ -46,7 +46,8 @@ blit-requires : tie.Need-blit-requires Inv-loop μ-loop
 blit-requires c κs =
     record {
       framed = rw (c .before .before .before .before .loop .inv .1) (framed-pack _);
-      bytes = columns-bytes _ (artOf (c .before .before .at .result) (c .before .before .before .before .before .before .before .args .is-open)) (tile-columns-of _ _ _ _ (c .before .before .before .before .before .all-tiles .ensures) (c .tile-columns .ensures));
+      bytes = columns-bytes _ (artOf (c .before .before .at .result) (c .before .before .before .before .before .before .before .args .is-open))
+          (tile-columns-of _ _ _ _ (c .before .before .before .before .before .all-tiles .ensures) (c .tile-columns .ensures));
       across = omega arith;
       down = omega arith;
     }

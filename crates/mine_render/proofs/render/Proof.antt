@@ -17,25 +17,23 @@ use Rattle.mine_render.proofs.render.Tie as tie
 placed : (frame : List ℕ) (cx cy : ℕ) (px py : ℕ) → Framed frame → cx ≡ cameraOf px VIEW-W W → cy ≡ cameraOf py VIEW-H H → Placed frame cx cy
 placed frame cx cy px py f p q = record { framed = f; across = omega arith; down = omega arith }
 
-clear-requires : tie.Need-clear-requires
-clear-requires c κs = search needs
-
-camera-requires : tie.Need-camera-requires
-camera-requires c κs = search needs
-
-camera-requires-2 : tie.Need-camera-requires-2
-camera-requires-2 c κs = search needs
-
 draw-tiles-requires : tie.Need-draw-tiles-requires
 draw-tiles-requires c κs =
     let k = c .before .before .before in
-    record { cells = search needs; placed = placed _ _ _ _ _ (rw (k .before .before .before .before .clear .ensures) (framed-pack unlit)) (k .before .camera .ensures) (k .camera2 .ensures) }
+    record {
+      cells = search needs;
+      placed = placed _ _ _ _ _ (rw (k .before .before .before .before .clear .ensures) (framed-pack unlit)) (k .before .camera .ensures)
+          (k .camera2 .ensures);
+    }
 
 draw-enemies-requires : tie.Need-draw-enemies-requires
 draw-enemies-requires c κs =
     let t = c .before .before .before .before in
     let k = t .before .before .before .before in
-    record { few = k .before .before .before .before .before .before .before .pre .few; placed = placed _ _ _ _ _ (rw (t .draw-tiles .ensures) (framed-pack _)) (k .before .camera .ensures) (k .camera2 .ensures) }
+    record {
+      few = k .before .before .before .before .before .before .before .pre .few;
+      placed = placed _ _ _ _ _ (rw (t .draw-tiles .ensures) (framed-pack _)) (k .before .camera .ensures) (k .camera2 .ensures);
+    }
 
 draw-at-requires : tie.Need-draw-at-requires
 draw-at-requires c κs =
@@ -43,26 +41,24 @@ draw-at-requires c κs =
     let k = d .before .before .before .before .before .before .before .before .before in
     placed _ _ _ _ _ (rw (d .draw-enemies .ensures) (framed-pack _)) (k .before .camera .ensures) (k .camera2 .ensures)
 
-same-length : tie.Need-same-length
-same-length c = search needs
-
 returns : tie.Need-returns
 returns c =
     let d = c .before .before .before .before .before .before in
     let t = d .before .before .before .before .before in
     let k = t .before .before .before .before in
     let m = k .before .before .before .before .before .before .before .args .t1 in
-    whole m _ _ _ _ _ _ (k .before .camera .ensures) (k .camera2 .ensures) (k .before .before .before .before .clear .ensures) (t .draw-tiles .ensures) (d .draw-enemies .ensures) (c .before .before .draw-at .ensures)
+    whole m _ _ _ _ _ _ (k .before .camera .ensures) (k .camera2 .ensures) (k .before .before .before .before .clear .ensures) (t .draw-tiles .ensures)
+    (d .draw-enemies .ensures) (c .before .before .draw-at .ensures)
 
 pub render-spec : {M : Type 1} → statement M
 render-spec =
     tie.close
     (tie.spec
-    clear-requires
-    camera-requires
-    camera-requires-2
+    (λ c κs. search needs)
+    (λ c κs. search needs)
+    (λ c κs. search needs)
     draw-tiles-requires
     draw-enemies-requires
     draw-at-requires
-    same-length
+    (λ c. search needs)
     returns)

@@ -11,9 +11,6 @@ use Rattle.pace.proofs.due.Tie as tie
 wraps-back : (r mark time : ℕ) → r < 2 ^ 32 → mark < 2 ^ 32 → (r + mark) % 2 ^ 32 ≡ time → r ≡ since time mark
 wraps-back r mark time hr hm e = omega arith
 
-wrapping-sub-u32-requires : tie.Need-wrapping-sub-u32-requires
-wrapping-sub-u32-requires c κs = search needs
-
 returns : tie.Need-returns
 returns c =
     let sub = c .«wrapping-sub-u32» in
@@ -21,4 +18,4 @@ returns c =
     ap (leb (a .interval)) (wraps-back (sub .result) (a .mark) (a .time) (sub .ok) (c .before .fits .mark .fits) (sub .ensures))
 
 pub due-spec : {M : Type 1} → statement M
-due-spec = tie.close (tie.spec wrapping-sub-u32-requires returns)
+due-spec = tie.close (tie.spec (λ c κs. search needs) returns)

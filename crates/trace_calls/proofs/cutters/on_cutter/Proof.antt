@@ -19,7 +19,7 @@ returns c =
     let k2 = k1 .before .before .before .before .before in
     let a = k2 .args in
     simp (tested (c .before .match .keys1) 18) (c .«directed» .ensures ∙ ap₂ (λ (g : Cutter) (p : Pace). cutterDirected (a .h) (a .args .now) (a .current .now)
-        (a .state .now) (a .result .now) g p) (k1 .«cutter-of» .ensures) (c .before .before .«marks-of» .ensures))
+    (a .state .now) (a .result .now) g p) (k1 .«cutter-of» .ensures) (c .before .before .«marks-of» .ensures))
 
 returns-2 : tie.Need-returns-2
 unfolding onCutter
@@ -28,7 +28,7 @@ returns-2 c =
     let k2 = k1 .before .before .before .before .before in
     let a = k2 .args in
     simp (tested (c .before .match .keys2) 18, tested (c .before .match .keys2) 19) (c .«stepped» .ensures ∙ ap₂ (λ (g : Cutter) (p : Pace). cutterStepped (a .h)
-        (a .args .now) (a .current .now) (a .state .now) (a .result .now) g p) (k1 .«cutter-of» .ensures) (c .before .before .«marks-of» .ensures))
+    (a .args .now) (a .current .now) (a .state .now) (a .result .now) g p) (k1 .«cutter-of» .ensures) (c .before .before .«marks-of» .ensures))
 
 returns-3 : tie.Need-returns-3
 unfolding onCutter
@@ -37,7 +37,7 @@ returns-3 c =
     let k2 = k1 .before .before .before .before .before in
     let a = k2 .args in
     simp (tested (c .before .match .keys3) 18, tested (c .before .match .keys3) 19, tested (c .before .match .keys3) 20) (c .«ticked» .ensures ∙ ap₂ (λ (g : Cutter)
-        (p : Pace). cutterTicked (a .h) (a .args .now) (a .current .now) (a .state .now) (a .result .now) g p) (k1 .«cutter-of» .ensures) (c .before .before .«marks-of» .ensures))
+    (p : Pace). cutterTicked (a .h) (a .args .now) (a .current .now) (a .state .now) (a .result .now) g p) (k1 .«cutter-of» .ensures) (c .before .before .«marks-of» .ensures))
 
 returns-4 : tie.Need-returns-4
 unfolding onCutter
@@ -69,9 +69,16 @@ returns-7 c =
     let k1 = c .before .before .before in
     let k2 = k1 .before .before .before .before .before in
     let a = k2 .args in
-    simp (tested (c .before .match .keys7) 18, tested (c .before .match .keys7) 19, tested (c .before .match .keys7) 20, tested (c .before .match .keys7) 21,
-        tested (c .before .match .keys7) 22, tested (c .before .match .keys7) 23, tested (c .before .match .keys7) 24)
-        (c .«pictured» .ensures ∙ ap (cutterPictured (a .h) (a .args .now) (a .current .now) (a .state .now) (a .result .now)) (k1 .«cutter-of» .ensures))
+    simp (
+      tested (c .before .match .keys7) 18,
+      tested (c .before .match .keys7) 19,
+      tested (c .before .match .keys7) 20,
+      tested (c .before .match .keys7) 21,
+      tested (c .before .match .keys7) 22,
+      tested (c .before .match .keys7) 23,
+      tested (c .before .match .keys7) 24,
+    )
+    (c .«pictured» .ensures ∙ ap (cutterPictured (a .h) (a .args .now) (a .current .now) (a .state .now) (a .result .now)) (k1 .«cutter-of» .ensures))
 
 returns-8 : tie.Need-returns-8
 unfolding onCutter
@@ -79,9 +86,17 @@ returns-8 c =
     let k1 = c .before .before .before in
     let k2 = k1 .before .before .before .before .before in
     let a = k2 .args in
-    simp (tested (c .before .match .keys8) 18, tested (c .before .match .keys8) 19, tested (c .before .match .keys8) 20, tested (c .before .match .keys8) 21,
-        tested (c .before .match .keys8) 22, tested (c .before .match .keys8) 23, tested (c .before .match .keys8) 24, tested (c .before .match .keys8) 25)
-        (c .«reported» .ensures ∙ ap (cutterReported (a .h) (a .args .now) (a .current .now) (a .state .now) (a .result .now)) (k1 .«cutter-of» .ensures))
+    simp (
+      tested (c .before .match .keys8) 18,
+      tested (c .before .match .keys8) 19,
+      tested (c .before .match .keys8) 20,
+      tested (c .before .match .keys8) 21,
+      tested (c .before .match .keys8) 22,
+      tested (c .before .match .keys8) 23,
+      tested (c .before .match .keys8) 24,
+      tested (c .before .match .keys8) 25,
+    )
+    (c .«reported» .ensures ∙ ap (cutterReported (a .h) (a .args .now) (a .current .now) (a .state .now) (a .result .now)) (k1 .«cutter-of» .ensures))
 
 returns-9 : tie.Need-returns-9
 unfolding onCutter
@@ -97,10 +112,19 @@ returns-10 c =
     let k1 = c .before .before .before in
     let k2 = k1 .before .before .before .before .before in
     let a = k2 .args in
-    simp (tested (c .before .match .keys10) 18, tested (c .before .match .keys10) 19, tested (c .before .match .keys10) 20, tested (c .before .match .keys10) 21,
-        tested (c .before .match .keys10) 22, tested (c .before .match .keys10) 23, tested (c .before .match .keys10) 24, tested (c .before .match .keys10) 25,
-        tested (c .before .match .keys10) 29, tested (c .before .match .keys10) 32)
-        (c .«started» .ensures ∙ ap (cutterStarted (a .h) (a .args .now) (a .current .now) (a .state .now) (a .result .now)) (k1 .«cutter-of» .ensures))
+    simp (
+      tested (c .before .match .keys10) 18,
+      tested (c .before .match .keys10) 19,
+      tested (c .before .match .keys10) 20,
+      tested (c .before .match .keys10) 21,
+      tested (c .before .match .keys10) 22,
+      tested (c .before .match .keys10) 23,
+      tested (c .before .match .keys10) 24,
+      tested (c .before .match .keys10) 25,
+      tested (c .before .match .keys10) 29,
+      tested (c .before .match .keys10) 32,
+    )
+    (c .«started» .ensures ∙ ap (cutterStarted (a .h) (a .args .now) (a .current .now) (a .state .now) (a .result .now)) (k1 .«cutter-of» .ensures))
 
 returns-11 : tie.Need-returns-11
 unfolding onCutter
@@ -108,10 +132,19 @@ returns-11 c =
     let k1 = c .before .before .before .before .before .before .before .before in
     let a = k1 .args in
     let n = c .before .match .rest in
-    simp (ne-eqb _ _ (n .0 .0 .0 .0 .0 .0 .0 .0 .0 .1), ne-eqb _ _ (n .0 .0 .0 .0 .0 .0 .0 .0 .1), ne-eqb _ _ (n .0 .0 .0 .0 .0 .0 .0 .1),
-        ne-eqb _ _ (n .0 .0 .0 .0 .0 .0 .1), ne-eqb _ _ (n .0 .0 .0 .0 .0 .1), ne-eqb _ _ (n .0 .0 .0 .0 .1), ne-eqb _ _ (n .0 .0 .0 .1), ne-eqb _ _ (n .0 .0 .1),
-        ne-eqb _ _ (n .0 .1), ne-eqb _ _ (n .1))
-        (c .«on-either» .ensures ∙ ap (onEither (a .h) (a .args .now) (a .current .now) (a .state .now) (a .result .now)) (c .before .before .«marks-of» .ensures))
+    simp (
+      ne-eqb _ _ (n .0 .0 .0 .0 .0 .0 .0 .0 .0 .1),
+      ne-eqb _ _ (n .0 .0 .0 .0 .0 .0 .0 .0 .1),
+      ne-eqb _ _ (n .0 .0 .0 .0 .0 .0 .0 .1),
+      ne-eqb _ _ (n .0 .0 .0 .0 .0 .0 .1),
+      ne-eqb _ _ (n .0 .0 .0 .0 .0 .1),
+      ne-eqb _ _ (n .0 .0 .0 .0 .1),
+      ne-eqb _ _ (n .0 .0 .0 .1),
+      ne-eqb _ _ (n .0 .0 .1),
+      ne-eqb _ _ (n .0 .1),
+      ne-eqb _ _ (n .1),
+    )
+    (c .«on-either» .ensures ∙ ap (onEither (a .h) (a .args .now) (a .current .now) (a .state .now) (a .result .now)) (c .before .before .«marks-of» .ensures))
 
 pub on-cutter-spec : {M : Type 1} → statement M
 on-cutter-spec =

@@ -18,7 +18,7 @@ returns c =
     let k2 = k1 .before .before .before .before .before in
     let a = k2 .args in
     simp (tested (c .before .match .keys1) 2) (c .«moved» .ensures ∙ ap₂ (λ (g : Mine) (p : Pace). mineMoved (a .h) (a .args .now) (a .current .now) (a .state .now)
-        (a .result .now) g p) (k1 .«mine-of» .ensures) (c .before .before .«marks-of» .ensures))
+    (a .result .now) g p) (k1 .«mine-of» .ensures) (c .before .before .«marks-of» .ensures))
 
 returns-2 : tie.Need-returns-2
 unfolding onMine
@@ -27,7 +27,7 @@ returns-2 c =
     let k2 = k1 .before .before .before .before .before in
     let a = k2 .args in
     simp (tested (c .before .match .keys2) 2, tested (c .before .match .keys2) 3) (c .«fallen» .ensures ∙ ap₂ (λ (g : Mine) (p : Pace). mineFallen (a .h) (a .args .now)
-        (a .current .now) (a .state .now) (a .result .now) g p) (k1 .«mine-of» .ensures) (c .before .before .«marks-of» .ensures))
+    (a .current .now) (a .state .now) (a .result .now) g p) (k1 .«mine-of» .ensures) (c .before .before .«marks-of» .ensures))
 
 returns-3 : tie.Need-returns-3
 unfolding onMine
@@ -36,7 +36,7 @@ returns-3 c =
     let k2 = k1 .before .before .before .before .before in
     let a = k2 .args in
     simp (tested (c .before .match .keys3) 2, tested (c .before .match .keys3) 3, tested (c .before .match .keys3) 4) (c .«ticked» .ensures ∙ ap₂ (λ (g : Mine)
-        (p : Pace). mineTicked (a .h) (a .args .now) (a .current .now) (a .state .now) (a .result .now) g p) (k1 .«mine-of» .ensures) (c .before .before .«marks-of» .ensures))
+    (p : Pace). mineTicked (a .h) (a .args .now) (a .current .now) (a .state .now) (a .result .now) g p) (k1 .«mine-of» .ensures) (c .before .before .«marks-of» .ensures))
 
 returns-4 : tie.Need-returns-4
 unfolding onMine
@@ -52,9 +52,14 @@ returns-5 c =
     let k1 = c .before .before .before in
     let k2 = k1 .before .before .before .before .before in
     let a = k2 .args in
-    simp (tested (c .before .match .keys5) 2, tested (c .before .match .keys5) 3, tested (c .before .match .keys5) 4, tested (c .before .match .keys5) 5,
-        tested (c .before .match .keys5) 6)
-        (c .«pictured» .ensures ∙ ap (minePictured (a .h) (a .args .now) (a .current .now) (a .state .now) (a .result .now)) (k1 .«mine-of» .ensures))
+    simp (
+      tested (c .before .match .keys5) 2,
+      tested (c .before .match .keys5) 3,
+      tested (c .before .match .keys5) 4,
+      tested (c .before .match .keys5) 5,
+      tested (c .before .match .keys5) 6,
+    )
+    (c .«pictured» .ensures ∙ ap (minePictured (a .h) (a .args .now) (a .current .now) (a .state .now) (a .result .now)) (k1 .«mine-of» .ensures))
 
 returns-6 : tie.Need-returns-6
 unfolding onMine
@@ -62,9 +67,15 @@ returns-6 c =
     let k1 = c .before .before .before in
     let k2 = k1 .before .before .before .before .before in
     let a = k2 .args in
-    simp (tested (c .before .match .keys6) 2, tested (c .before .match .keys6) 3, tested (c .before .match .keys6) 4, tested (c .before .match .keys6) 5,
-        tested (c .before .match .keys6) 6, tested (c .before .match .keys6) 32)
-        (c .«started» .ensures ∙ ap (mineStarted (a .h) (a .args .now) (a .current .now) (a .state .now) (a .result .now)) (k1 .«mine-of» .ensures))
+    simp (
+      tested (c .before .match .keys6) 2,
+      tested (c .before .match .keys6) 3,
+      tested (c .before .match .keys6) 4,
+      tested (c .before .match .keys6) 5,
+      tested (c .before .match .keys6) 6,
+      tested (c .before .match .keys6) 32,
+    )
+    (c .«started» .ensures ∙ ap (mineStarted (a .h) (a .args .now) (a .current .now) (a .state .now) (a .result .now)) (k1 .«mine-of» .ensures))
 
 returns-7 : tie.Need-returns-7
 unfolding onMine
@@ -73,7 +84,7 @@ returns-7 c =
     let a = k1 .args in
     let n = c .before .match .rest in
     simp (ne-eqb _ _ (n .0 .0 .0 .0 .0 .1), ne-eqb _ _ (n .0 .0 .0 .0 .1), ne-eqb _ _ (n .0 .0 .0 .1), ne-eqb _ _ (n .0 .0 .1), ne-eqb _ _ (n .0 .1), ne-eqb _ _ (n .1))
-        (c .«on-either» .ensures ∙ ap (onEither (a .h) (a .args .now) (a .current .now) (a .state .now) (a .result .now)) (c .before .before .«marks-of» .ensures))
+    (c .«on-either» .ensures ∙ ap (onEither (a .h) (a .args .now) (a .current .now) (a .state .now) (a .result .now)) (c .before .before .«marks-of» .ensures))
 
 pub on-mine-spec : {M : Type 1} → statement M
 on-mine-spec =

@@ -25,8 +25,13 @@ returns-4 c = simp (tested (c .before .match .keys4) 1, tested (c .before .match
 
 returns-5 : tie.Need-returns-5
 unfolding onEither
-returns-5 c = simp (tested (c .before .match .keys5) 1, tested (c .before .match .keys5) 7, tested (c .before .match .keys5) 17, tested (c .before .match .keys5) 26,
-    tested (c .before .match .keys5) 33) (c .«page» .ensures)
+returns-5 c = simp (
+  tested (c .before .match .keys5) 1,
+  tested (c .before .match .keys5) 7,
+  tested (c .before .match .keys5) 17,
+  tested (c .before .match .keys5) 26,
+  tested (c .before .match .keys5) 33,
+) (c .«page» .ensures)
 
 returns-6 : tie.Need-returns-6
 unfolding onEither
