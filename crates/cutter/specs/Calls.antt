@@ -1,12 +1,12 @@
 -- The promises of Block Cutter's calls: refused by a number and the state as it came, or answered.
 use mathlib.Core.Bool.{false}
 use mathlib.Core.List.{List, []}
-use Prim.Native.Nat.{ℕ, _-_, _*_, _/_}
+use Prim.Native.Nat.{ℕ}
 use lib.Dec.{leb}
 use lib.IntN.{pos}
 use lib.ListN.{replicate}
 use Rattle.refusal.specs.Refusal.{NONE, COMMAND, DRAWS, unless, _then_, refusedOr}
-use Rattle.cutter_ground.specs.Cells.{CN, CB-BLACK, INNER}
+use Rattle.cutter_ground.specs.Cells.{CN, CB-BLACK}
 use Rattle.cutter_state.specs.declared.Cutter.{Cutter}
 use Rattle.cutter_state.specs.Change.{withLevel, withLives, stateOf}
 use Rattle.cutter_state.specs.WellFormed.{MAX-LIVES, refusalOf}
@@ -16,7 +16,7 @@ use Rattle.cutter_rules.specs.Tick.{enemiesStepped}
 use Rattle.cutter_keeps.specs.Sweeps.{sweptStep}
 use Rattle.cutter.specs.declared.calls.CutterAnswer.{CutterAnswer}
 use Rattle.cutter.specs.declared.calls.Ground.{Ground}
-use Rattle.cutter_state.specs.State.{blackIn, claimedIn, lineIn}
+use Rattle.cutter_state.specs.State.{blackIn, claimedIn, lineIn, shareIn}
 use Rattle.cutter_ground.specs.Movers.{slots}
 use Rattle.controls.specs.Keys.{LEFT}
 
@@ -72,16 +72,12 @@ respawnCall c = refusedOr (refusalOf c) (refused c) (answered (respawned c))
 
 -- ---- ground report: black, claimed and line cells, and the share
 
--- (1860 - black)*100/1860, rounded down
-abbrev pub shareOf : ℕ → ℕ
-shareOf black = (INNER - black) * 100 / INNER
-
 -- zeros where refused
 abbrev pub unreported : ℕ → Ground
 unreported n = record { refusal = n; black = 0; claimed = 0; line = 0; share = 0 }
 
 abbrev pub reported : Cutter → Ground
-reported c = record { refusal = NONE; black = blackIn c; claimed = claimedIn c; line = lineIn c; share = shareOf (blackIn c) }
+reported c = record { refusal = NONE; black = blackIn c; claimed = claimedIn c; line = lineIn c; share = shareIn c }
 
 unfoldable pub reportCall : Cutter → Ground
 reportCall c = refusedOr (refusalOf c) unreported (reported c)

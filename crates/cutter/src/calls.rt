@@ -7,6 +7,7 @@ use cutter_ground::CN;
 use cutter_ground::INNER;
 use cutter_ground::MAX_ENEMIES;
 use cutter_ground::Mover;
+use cutter_ground::RING;
 use cutter_ground::black_count;
 use cutter_ground::count_of;
 use cutter_level::creatures_of;
@@ -16,8 +17,9 @@ use cutter_state::MAX_LIVES;
 use refusal::Refusal;
 ghost use mathlib.Core.Path.{_≡_};
 ghost use Prim.Native.Nat.{_≤_};
-ghost use Rattle.cutter.specs.Calls.{zeros, roundCall, levelCall, directionCall, stepCall, sweepsCall, enemiesCall, respawnCall, shareOf, reportCall};
-ghost use Rattle.cutter_ground.specs.Cells.{INNER};
+ghost use Rattle.cutter.specs.Calls.{zeros, roundCall, levelCall, directionCall, stepCall, sweepsCall, enemiesCall, respawnCall, reportCall};
+ghost use Rattle.cutter_ground.specs.Cells.{RING};
+ghost use Rattle.cutter_state.specs.State.{shareOf};
 
 #[repr(C)]
 pub struct CutterAnswer {
@@ -196,11 +198,11 @@ pub fn respawn(c: Cutter) -> CutterAnswer
     }
 }
 
-fn share_of(black: u16) -> u16
-    requires { ⌜ black ≤ INNER ⌝ }
-    ensures { λ r. ⌜ r ≡ shareOf black ⌝ }
+fn share_of(claimed: u16) -> u16
+    requires { ⌜ RING ≤ claimed ⌝ }
+    ensures { λ r. ⌜ r ≡ shareOf claimed ⌝ }
 {
-    ((INNER - black as usize) * 100 / INNER) as u16
+    ((claimed as usize - RING) * 100 / INNER) as u16
 }
 
 // The ground report.
@@ -225,6 +227,6 @@ pub fn ground_report(c: Cutter) -> Ground
         black: black,
         claimed: claimed,
         line: line,
-        share: share_of(black),
+        share: share_of(claimed),
     }
 }

@@ -12,8 +12,10 @@ pub const CH: usize = 32;
 
 pub const CN: usize = CW * CH;
 
-// The cells inside the ring.
+// The cells inside the ring, and those of the ring.
 pub const INNER: usize = (CW - 2) * (CH - 2);
+
+pub const RING: usize = CN - INNER;
 
 pub const CB_BLACK: u8 = 0;
 

@@ -12,3 +12,4 @@ pub mod Steps
 pub mod Accounts
 pub mod Nearest
 pub mod Sweeps
+pub mod Share

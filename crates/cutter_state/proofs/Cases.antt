@@ -9,9 +9,10 @@ use Rattle.refusal.specs.Refusal.{NONE, CELLS, PLAYER, CREATURES, NUMBERS}
 use Rattle.cutter_ground.specs.Cells.{CW, CN, CB-BLACK, CB-FILLED, CB-TRAIL}
 use Rattle.cutter_ground.specs.declared.Mover.{Mover}
 use Rattle.cutter_state.specs.declared.Cutter.{Cutter}
-use Rattle.cutter_state.specs.State.{holdsAt}
+use Rattle.cutter_state.specs.State.{holdsAt, shareIn}
 use Rattle.cutter_state.specs.WellFormed.{rowsFilled, columnsFilled, cellsOk, directionOk, playerOk, moverOk, isBlank, creaturesOk, numbersOk, refusalOf}
 use Rattle.cutter_ground.specs.Movers.{MAX-ENEMIES}
+use Rattle.laws.specs.Lists.{tally}
 
 abbrev mover : ℕ → ℕ → ℤ → ℤ → Mover
 mover x y vx vy = record { x = x; y = y; vx = vx; vy = vy }
@@ -73,3 +74,19 @@ nearest = record {
   seventeen = refl;
   fourLives = refl;
 }
+
+-- so many cells claimed, so many line, the rest black
+abbrev split : ℕ → ℕ → Cutter
+split claimed line = stateOf (replicate claimed CB-FILLED ++ replicate line CB-TRAIL ++ replicate (CN - claimed - line) CB-BLACK) 0 zeros 0 1 3
+
+-- the share of a fresh level, with 19 cells of open line, on both sides of its first percent, and of all
+pub record Shares : Type 0 where
+  pub fresh : shareIn (split 188 0) ≡ 0
+  pub line : shareIn (split 188 19) ≡ 0
+  pub under : shareIn (split 206 0) ≡ 0
+  pub over : shareIn (split 207 0) ≡ 1
+  pub all : shareIn (split CN 0) ≡ 100
+
+pub shares : Shares
+unfolding tally
+shares = record { fresh = refl; line = refl; under = refl; over = refl; all = refl }

@@ -1,10 +1,10 @@
 -- Block Cutter: what a state holds.
 use mathlib.Core.Bool.{Bool, _&&_}
 use mathlib.Core.List.{List}
-use Prim.Native.Nat.{ℕ}
+use Prim.Native.Nat.{ℕ, _-_, _*_, _/_}
 use lib.Dec.{eqb}
 use lib.ListN.{take, drop}
-use Rattle.cutter_ground.specs.Cells.{cellAt, blackCount, lineCount, place, onGrid, claimedCount}
+use Rattle.cutter_ground.specs.Cells.{cellAt, blackCount, lineCount, place, onGrid, claimedCount, INNER, RING}
 use Rattle.cutter_ground.specs.declared.Mover.{Mover}
 use Rattle.cutter_state.specs.declared.Cutter.{Cutter}
 
@@ -29,3 +29,10 @@ claimedIn c = claimedCount (c .grid)
 
 abbrev pub lineIn : Cutter → ℕ
 lineIn c = lineCount (c .grid)
+
+-- (claimed - 188)*100/1860, rounded down: a closed line counts, an open one doesn't
+abbrev pub shareOf : ℕ → ℕ
+shareOf claimed = (claimed - RING) * 100 / INNER
+
+abbrev pub shareIn : Cutter → ℕ
+shareIn c = shareOf (claimedIn c)

@@ -4,11 +4,11 @@ use Prim.Native.Nat.{ℕ, _≤_}
 use borrow.Author.Needs.{needs}
 use Rattle.refusal.proofs.Calls.{turned-away, let-in}
 use Rattle.cutter_state.proofs.Facts.{accepted}
-use Rattle.cutter_keeps.proofs.Inner.{black-most}
+use Rattle.cutter_keeps.proofs.Inner.{claimed-least}
 use Rattle.cutter.specs.Calls.{unreported, reported, reportCall}
 use Rattle.cutter.proofs.calls.ground_report.Statement.{statement}
 use Rattle.cutter.proofs.calls.ground_report.Tie as tie
-use Rattle.cutter_ground.specs.Cells.{INNER}
+use Rattle.cutter_ground.specs.Cells.{RING}
 
 returns : tie.Need-returns
 unfolding reportCall
@@ -16,10 +16,11 @@ returns c = let s = c .before .before .args .t1 in turned-away unreported (repor
 
 share-of-requires : tie.Need-share-of-requires
 share-of-requires c κs =
-    let b = c .before .before .before .before .before .before in
+    let n = c .before .before .before in
+    let b = n .before .before .before in
     let k = b .before .before .before .before in
     let s = k .before .args .t1 in
-    subst (λ (n : ℕ). n ≤ INNER) (sym (b .«black-count» .ensures)) (black-most s (accepted s (sym (k .check .ensures) ∙ b .before .before .before .if1 .left)))
+    subst (λ (m : ℕ). RING ≤ m) (sym (n .«count-of» .ensures)) (claimed-least s (accepted s (sym (k .check .ensures) ∙ b .before .before .before .if1 .left)))
 
 returns-2 : tie.Need-returns-2
 unfolding reportCall
