@@ -192,7 +192,7 @@ typedef struct {
     sumbadger_cutter game;
 } sumbadger_cutter_passed;
 
-/* Cells, and the hundredths of the ground that are no longer black; zeros where refused. */
+/* Cells, and the hundredths of the ground inside the ring that are claimed, rounded down: an open line counts in none of them. Zeros where refused. */
 typedef struct {
     unsigned char refusal;
     unsigned short black;

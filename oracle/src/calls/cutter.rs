@@ -2,7 +2,7 @@
 
 use crate::check::{self, LAST_LEVEL, LEVEL_LAST, Refusal};
 use crate::games::{Answer, cutter};
-use crate::state::{CLAIMED, Cutter, INTERIOR, LINE, Pace};
+use crate::state::{CLAIMED, Cutter, INTERIOR, LINE, Pace, RING};
 
 pub fn new_round(draws: &[u8]) -> Result<Cutter, Refusal> {
     check::draws(draws, check::draws_for(1))?;
@@ -71,10 +71,12 @@ pub fn render(c: &Cutter, frame: &mut [u8]) -> Result<(), Refusal> {
     Ok(())
 }
 
-/// Black, claimed and line cells, and the share in hundredths.
+/// Black, claimed and line cells, and the hundredths of the ground inside the ring that are claimed
+/// (document 02, ii).
 pub fn ground_report(c: &Cutter) -> Result<[usize; 4], Refusal> {
     check::cutter(c)?;
     let black = cutter::black_count(c);
-    let share = (INTERIOR - black) * 100 / INTERIOR;
-    Ok([black, c.count_of(CLAIMED), c.count_of(LINE), share])
+    let claimed = c.count_of(CLAIMED);
+    let share = (claimed - RING) * 100 / INTERIOR;
+    Ok([black, claimed, c.count_of(LINE), share])
 }

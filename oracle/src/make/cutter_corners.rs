@@ -254,4 +254,10 @@ fn pictures(out: &mut Corners) {
         sliver(&mut c, black);
         out.cutter("ground reports on each side of a hundredth", &c, vec![Call::Ground]);
     }
+    for line in [18, 19, 30] {
+        let name = "ground reports with an open line, which is in no share, and after the line is lost";
+        out.cutter(name, &drawing(line), vec![Call::Ground, Call::Respawn, Call::Ground]);
+    }
+    let close = vec![Call::Ground, Call::Step, Call::Ground];
+    out.cutter("ground reports before a closing and after it", &drawing(30), close);
 }
