@@ -4,3 +4,4 @@ pub mod Cases
 pub mod Draws
 pub mod Step
 pub mod Tick
+pub mod Who
