@@ -11,9 +11,7 @@ ghost use Rattle.mine_fall.specs.CodePlaces.{Falling, Dropped};
 #[no_mangle]
 pub extern "C" fn rule_mine_step_on(
     grid: &mut [u8; AREA],
-    xs: &[usize; MAX_ENEMIES],
-    ys: &[usize; MAX_ENEMIES],
-    count: usize,
+    spots: &[u16; MAX_ENEMIES],
     px: usize,
     py: usize,
     coins: u32,
@@ -22,8 +20,8 @@ pub extern "C" fn rule_mine_step_on(
     won: bool,
     dir: u8,
 ) -> Player
-    requires { ⌜ Stands (now grid) (now xs) (now ys) count (record { px = px; py = py; coins = coins; needed = needed; dead = dead; won = won }) ⌝ }
-    ensures { λ r. ⌜ Steps (now (grid .entry)) (now (xs .entry)) (now (ys .entry)) count (record { px = px; py = py; coins = coins; needed = needed; dead = dead; won = won }) dir (now (grid .exit)) r ⌝ }
+    requires { ⌜ Stands (now grid) (now spots) (record { px = px; py = py; coins = coins; needed = needed; dead = dead; won = won }) ⌝ }
+    ensures { λ r. ⌜ Steps (now (grid .entry)) (now (spots .entry)) (record { px = px; py = py; coins = coins; needed = needed; dead = dead; won = won }) dir (now (grid .exit)) r ⌝ }
 {
     let p = Player {
         px: px,
@@ -33,38 +31,36 @@ pub extern "C" fn rule_mine_step_on(
         dead: dead,
         won: won,
     };
-    mine_moves::step_on(grid, xs, ys, count, p, dir)
+    mine_moves::step_on(grid, spots, p, dir)
 }
 
 #[no_mangle]
 pub extern "C" fn rule_mine_gravity_on(
     grid: &mut [u8; AREA],
     falling: &mut [bool; AREA],
-    xs: &mut [usize; MAX_ENEMIES],
-    ys: &mut [usize; MAX_ENEMIES],
+    spots: &mut [u16; MAX_ENEMIES],
     dirs: &mut [u8; MAX_ENEMIES],
     s: Fallen,
     px: usize,
     py: usize,
 ) -> Fallen
-    requires { ⌜ Falling (now grid) (now falling) (now xs) (now ys) (now dirs) s px py ⌝ }
-    ensures { λ r. ⌜ Dropped gravityOf px py (now (grid .entry)) (now (falling .entry)) (now (xs .entry)) (now (ys .entry)) (now (dirs .entry)) s (now (grid .exit)) (now (falling .exit)) (now (xs .exit)) (now (ys .exit)) (now (dirs .exit)) r ⌝ }
+    requires { ⌜ Falling (now grid) (now falling) (now spots) (now dirs) s px py ⌝ }
+    ensures { λ r. ⌜ Dropped gravityOf px py (now (grid .entry)) (now (falling .entry)) (now (spots .entry)) (now (dirs .entry)) s (now (grid .exit)) (now (falling .exit)) (now (spots .exit)) (now (dirs .exit)) r ⌝ }
 {
-    mine_fall::gravity_on(grid, falling, xs, ys, dirs, s, px, py)
+    mine_fall::gravity_on(grid, falling, spots, dirs, s, px, py)
 }
 
 #[no_mangle]
 pub extern "C" fn rule_mine_tick_on(
     grid: &[u8; AREA],
-    xs: &mut [usize; MAX_ENEMIES],
-    ys: &mut [usize; MAX_ENEMIES],
+    spots: &mut [u16; MAX_ENEMIES],
     dirs: &mut [u8; MAX_ENEMIES],
     count: usize,
     px: usize,
     py: usize,
 ) -> bool
-    requires { ⌜ Walkers (now grid) (now xs) (now ys) (now dirs) count ⌝ }
-    ensures { λ r. ⌜ Ticked enemiesMoved (now (grid .entry)) count px py (now (xs .entry)) (now (ys .entry)) (now (dirs .entry)) r (now (xs .exit)) (now (ys .exit)) (now (dirs .exit)) ⌝ }
+    requires { ⌜ Walkers (now grid) (now spots) (now dirs) count ⌝ }
+    ensures { λ r. ⌜ Ticked enemiesMoved (now (grid .entry)) count px py (now (spots .entry)) (now (dirs .entry)) r (now (spots .exit)) (now (dirs .exit)) ⌝ }
 {
-    mine_moves::tick_on(grid, xs, ys, dirs, count, px, py)
+    mine_moves::tick_on(grid, spots, dirs, count, px, py)
 }

@@ -9,7 +9,6 @@ ghost use Rattle.mine_rules.specs.Move.{moved};
 ghost use Rattle.mine_rules.specs.Tick.{enemiesMoved};
 ghost use Rattle.mine_rules.specs.Gravity.{gravityOf};
 ghost use Rattle.mine_picture.specs.Picture.{mineLit};
-ghost use Rattle.mine_state.specs.CodeState.{Sound};
 ghost use Rattle.mine_picture.specs.CodePicture.{Drawable};
 
 // The copies of a state in and out, and nothing else.
@@ -44,7 +43,7 @@ pub extern "C" fn rule_mine_step(m: Mine, dir: u8) -> Mine
 
 #[no_mangle]
 pub extern "C" fn rule_mine_gravity(m: Mine) -> Mine
-    requires { ⌜ Sound m ⌝ }
+    requires { ⌜ WellFormed m ⌝ }
     ensures { λ r. ⌜ r ≡ gravityOf m ⌝ }
 {
     mine_fall::gravity(m)

@@ -1,100 +1,121 @@
--- Creatures and the lists of their parts. Assumes nothing.
-use mathlib.Core.Bool.{true, false}
-use mathlib.Core.List.{List, [], _∷_, map}
+-- Creatures and the lists that they are taken apart into. Assumes nothing.
+use mathlib.Core.Bool.{true, _&&_}
+use mathlib.Core.List.{List, [], _∷_}
 use mathlib.Core.Path.{_≡_, refl, sym, _∙_, ap}
-use Prim.Native.Nat.{ℕ, zero, suc, _+_, _<_, _≤_}
+use Prim.Native.Nat.{ℕ, zero, suc, _+_, _/_, _%_, _<_}
+use native.Mathlib.Nat.{le-of-suc-le-suc, not-suc-le-zero}
 use native.Mathlib.Numerals.{add-one}
 use native.Mathlib.Omega.{arith}
-use lib.ListN.{length, length-map, getD, set, take, drop}
-use Rattle.laws.proofs.Lists.{taken-one, taken-end, count-hit, count-miss}
-use Rattle.laws.specs.Lists.{count}
-use Rattle.found.specs.First.{firstFrom, first}
-use Rattle.found.specs.declared.Found.the-variants.{At, Nobody}
-use Rattle.found.proofs.First.{first-here, first-more, first-none}
+use lib.Dec.{eqb}
+use lib.ListN.{length, getD, set, drop, replicate}
+use borrow.Author.Tests.{eqb-true}
+use Rattle.laws.specs.Lists.{all}
+use Rattle.laws.proofs.Choice.{and-left, and-right}
 use Rattle.mine_state.specs.declared.Enemy.{Enemy}
-use Rattle.mine_state.specs.State.{MAX-ENEMIES, standsAt, blankSlot}
-use Rattle.mine_apart.specs.CodeApart.{xOf, yOf, dirOf, joined, holds, Apart, FirstSlot}
+use Rattle.mine_state.specs.State.{W, place, blankSlot}
+use Rattle.mine_state.specs.WellFormed.{isBlank}
+use Rattle.mine_state.proofs.Creatures.{map-inside}
+use Rattle.mine_apart.specs.CodeApart.{upTo, dirOf, spotsFrom, creature, joined}
+use Rattle.mine_state.specs.CodeState.{onMap, allOnMap}
 
--- taken apart and put together
-pub joined-parts : (es : List Enemy) → joined (map xOf es) (map yOf es) (map dirOf es) ≡ es
-unfolding joined
-joined-parts [] = refl
-joined-parts (e ∷ es) = ap (λ (l : List Enemy). e ∷ l) (joined-parts es)
+-- the first n by f and d for the rest: how many, none, and one more
+module _ {A B : Type 0} (d : B) (f : A → B) where
+  pub length-up : (n : ℕ) (l : List A) → length (upTo d f n l) ≡ length l
+  length-up n [] = refl
+  length-up zero (a ∷ l) = ap suc (length-up zero l)
+  length-up (suc n) (a ∷ l) = ap suc (length-up n l)
+
+  up-none : (l : List A) → replicate (length l) d ≡ upTo d f 0 l
+  up-none [] = refl
+  up-none (a ∷ l) = ap (λ (t : List B). d ∷ t) (up-none l)
+
+  pub up-begins : (l : List A) {n : ℕ} → length l ≡ n → replicate n d ≡ upTo d f 0 l
+  up-begins l h = rw (← h) (up-none l)
+
+  grown : (n : ℕ) (l : List A) (e : A) → n < length l → set (upTo d f n l) n (f (getD l n e)) ≡ upTo d f (suc n) l
+  grown n [] e h = absurd (not-suc-le-zero h)
+  grown zero (a ∷ l) e h = refl
+  grown (suc n) (a ∷ l) e h = ap (λ (t : List B). f a ∷ t) (grown n l e (le-of-suc-le-suc h))
+
+  pub up-more : (n : ℕ) (l : List A) (e : A) → n < length l → set (upTo d f n l) n (f (getD l n e)) ≡ upTo d f (n + 1) l
+  up-more n l e h = rw (add-one n) (grown n l e h)
 
 suc-same : {a b : ℕ} → suc a ≡ suc b → a ≡ b
 suc-same e = omega arith
 
-pub length-joined : (xs ys ds : List ℕ) → length ys ≡ length xs → length ds ≡ length xs → length (joined xs ys ds) ≡ length xs
+-- lists as long as each other, put together: how many, none, one more
+joined-none : (ss ds : List ℕ) → length ds ≡ length ss → replicate (length ss) blankSlot ≡ joined 0 ss ds
 unfolding joined
-length-joined [] ys ds a b = refl
-length-joined (x ∷ xs) [] ds a b = a
-length-joined (x ∷ xs) (y ∷ ys) [] a b = b
-length-joined (x ∷ xs) (y ∷ ys) (d ∷ ds) a b = ap suc (length-joined xs ys ds (suc-same a) (suc-same b))
+joined-none [] ds l = refl
+joined-none (s ∷ ss) [] l = absurd (omega arith)
+joined-none (s ∷ ss) (d ∷ ds) l = ap (λ (t : List Enemy). blankSlot ∷ t) (joined-none ss ds (suc-same l))
 
--- the creature of a slot
-pub joined-at : (xs ys ds : List ℕ) (i : ℕ) → length ys ≡ length xs → length ds ≡ length xs → getD (joined xs ys ds) i blankSlot ≡ record { x = getD xs i 0; y = getD ys i 0; dir = getD ds i 0 }
+pub length-joined : (n : ℕ) (ss ds : List ℕ) → length ds ≡ length ss → length (joined n ss ds) ≡ length ss
 unfolding joined
-joined-at [] [] [] i a b = refl
-joined-at [] [] (d ∷ ds) i a b = absurd (omega arith)
-joined-at [] (y ∷ ys) ds i a b = absurd (omega arith)
-joined-at (x ∷ xs) [] ds i a b = absurd (omega arith)
-joined-at (x ∷ xs) (y ∷ ys) [] i a b = absurd (omega arith)
-joined-at (x ∷ xs) (y ∷ ys) (d ∷ ds) zero a b = refl
-joined-at (x ∷ xs) (y ∷ ys) (d ∷ ds) (suc i) a b = joined-at xs ys ds i (suc-same a) (suc-same b)
+length-joined n [] ds l = refl
+length-joined n (s ∷ ss) [] l = absurd (omega arith)
+length-joined zero (s ∷ ss) (d ∷ ds) l = ap suc (length-joined zero ss ds (suc-same l))
+length-joined (suc n) (s ∷ ss) (d ∷ ds) l = ap suc (length-joined n ss ds (suc-same l))
 
--- a creature laid into a slot
-pub joined-set : (xs ys ds : List ℕ) (i : ℕ) (e : Enemy) → length ys ≡ length xs → length ds ≡ length xs → joined (set xs i (e .x)) (set ys i (e .y)) (set ds i (e .dir)) ≡ set (joined xs ys ds) i e
+joined-grown : (n : ℕ) (ss ds : List ℕ) → length ds ≡ length ss → n < length ss → set (joined n ss ds) n (creature (getD ss n 0) (getD ds n 0)) ≡ joined (suc n) ss ds
 unfolding joined
-joined-set [] ys ds i e a b = refl
-joined-set (x ∷ xs) [] ds i e a b = absurd (omega arith)
-joined-set (x ∷ xs) (y ∷ ys) [] i e a b = absurd (omega arith)
-joined-set (x ∷ xs) (y ∷ ys) (d ∷ ds) zero e a b = refl
-joined-set (x ∷ xs) (y ∷ ys) (d ∷ ds) (suc i) e a b = ap (λ (l : List Enemy). record { x = x; y = y; dir = d } ∷ l) (joined-set xs ys ds i e (suc-same a) (suc-same b))
+joined-grown n [] ds l h = absurd (not-suc-le-zero h)
+joined-grown n (s ∷ ss) [] l h = absurd (omega arith)
+joined-grown zero (s ∷ ss) (d ∷ ds) l h = refl
+joined-grown (suc n) (s ∷ ss) (d ∷ ds) l h = ap (λ (t : List Enemy). creature s d ∷ t) (joined-grown n ss ds (suc-same l) (le-of-suc-le-suc h))
 
--- what is known of creatures taken apart
-module _ (es : List Enemy) {xs ys ds : List ℕ} where
-  pub joined-of : xs ≡ map xOf es → ys ≡ map yOf es → ds ≡ map dirOf es → joined xs ys ds ≡ es
-  joined-of a b c = rw (a, b, c) (joined-parts es)
+pub joined-more : (n : ℕ) (ss ds : List ℕ) → length ds ≡ length ss → n < length ss → set (joined n ss ds) n (creature (getD ss n 0) (getD ds n 0)) ≡ joined (n + 1) ss ds
+joined-more n ss ds l h = rw (add-one n) (joined-grown n ss ds l h)
 
-  pub apart-of : length es ≡ MAX-ENEMIES → xs ≡ map xOf es → ys ≡ map yOf es → ds ≡ map dirOf es → Apart xs ys ds
-  apart-of l a b c =
-      record { across = rw a (length-map es xOf ∙ l); down = rw b (length-map es yOf ∙ l); ways = rw c (length-map es dirOf ∙ l) }
+pub joined-begins : (ss ds : List ℕ) {n : ℕ} → length ss ≡ n → length ds ≡ n → replicate n blankSlot ≡ joined 0 ss ds
+joined-begins ss ds h l = rw (← h) (joined-none ss ds (l ∙ sym h))
 
--- A slot of the first n creatures.
-module _ (xs ys ds : List ℕ) (hx : length xs ≡ MAX-ENEMIES) (hy : length ys ≡ MAX-ENEMIES) (hd : length ds ≡ MAX-ENEMIES) (n i x y : ℕ) (h : i < MAX-ENEMIES) (k : i < n) where
-  abbrev here : Enemy
-  here = record { x = getD xs i 0; y = getD ys i 0; dir = getD ds i 0 }
+-- the creature of a slot, one laid into a slot, and the last given up
+pub joined-at : (n : ℕ) (ss ds : List ℕ) (i : ℕ) → length ds ≡ length ss → i < n → i < length ss → getD (joined n ss ds) i blankSlot ≡ creature (getD ss i 0) (getD ds i 0)
+unfolding joined
+joined-at n [] ds i l k h = absurd (not-suc-le-zero h)
+joined-at n (s ∷ ss) [] i l k h = absurd (omega arith)
+joined-at zero (s ∷ ss) (d ∷ ds) i l k h = absurd (not-suc-le-zero k)
+joined-at (suc n) (s ∷ ss) (d ∷ ds) zero l k h = refl
+joined-at (suc n) (s ∷ ss) (d ∷ ds) (suc i) l k h = joined-at n ss ds i (suc-same l) (le-of-suc-le-suc k) (le-of-suc-le-suc h)
 
-  next : drop i (take n (joined xs ys ds)) ≡ here ∷ drop (i + 1) (take n (joined xs ys ds))
-  next =
-      let u : length ys ≡ length xs = hy ∙ sym hx in
-      let v : length ds ≡ length xs = hd ∙ sym hx in
-      rw⁻¹ (joined-at xs ys ds i u v) (taken-one n (joined xs ys ds) i blankSlot k (omega (arith, length-joined xs ys ds u v)))
+pub joined-set : (n : ℕ) (ss ds : List ℕ) (i s d : ℕ) → length ds ≡ length ss → i < n → joined n (set ss i s) (set ds i d) ≡ set (joined n ss ds) i (creature s d)
+unfolding joined
+joined-set n [] ds i s d l k = refl
+joined-set n (a ∷ ss) [] i s d l k = absurd (omega arith)
+joined-set zero (a ∷ ss) (b ∷ ds) i s d l k = absurd (not-suc-le-zero k)
+joined-set (suc n) (a ∷ ss) (b ∷ ds) zero s d l k = refl
+joined-set (suc n) (a ∷ ss) (b ∷ ds) (suc i) s d l k = ap (λ (t : List Enemy). creature a b ∷ t) (joined-set n ss ds i s d (suc-same l) (le-of-suc-le-suc k))
 
-  -- a loop that counts: m so far
-  pub slot-hit : (m : ℕ) {R : ℕ} → holds xs ys x y i ≡ true → m + count (standsAt x y) (drop i (take n (joined xs ys ds))) ≡ R
-      → m + 1 + count (standsAt x y) (drop (i + 1) (take n (joined xs ys ds))) ≡ R
-  slot-hit m t e = count-hit (standsAt x y) (take n (joined xs ys ds)) i m next e t
+pub joined-less : (n : ℕ) (ss ds : List ℕ) (s d : ℕ) → length ds ≡ length ss → joined n (set ss n s) (set ds n d) ≡ set (joined (suc n) ss ds) n blankSlot
+unfolding joined
+joined-less n [] ds s d l = refl
+joined-less n (a ∷ ss) [] s d l = absurd (omega arith)
+joined-less zero (a ∷ ss) (b ∷ ds) s d l = refl
+joined-less (suc n) (a ∷ ss) (b ∷ ds) s d l = ap (λ (t : List Enemy). creature a b ∷ t) (joined-less n ss ds s d (suc-same l))
 
-  pub slot-miss : (m : ℕ) {R : ℕ} → holds xs ys x y i ≡ false → m + count (standsAt x y) (drop i (take n (joined xs ys ds))) ≡ R
-      → m + count (standsAt x y) (drop (i + 1) (take n (joined xs ys ds))) ≡ R
-  slot-miss m t e = count-miss (standsAt x y) (take n (joined xs ys ds)) i m next e t
+-- a place tells its column and its row
+pub creature-at : (e : Enemy) → e .x < W → creature (place (e .x) (e .y)) (e .dir) ≡ e
+creature-at e h =
+    let a : place (e .x) (e .y) % W ≡ e .x = omega arith in
+    let b : place (e .x) (e .y) / W ≡ e .y = omega arith in
+    rw (a, b)
 
--- What the first slot at (x, y) tells.
-module _ (xs ys ds : List ℕ) (hx : length xs ≡ MAX-ENEMIES) (hy : length ys ≡ MAX-ENEMIES) (hd : length ds ≡ MAX-ENEMIES) (n x y : ℕ) (few : n ≤ MAX-ENEMIES) where
-  skipped : (i : ℕ) → i ≤ n → ((k : ℕ) → 0 ≤ k → k < i → holds xs ys x y k ≡ false)
-      → firstFrom (standsAt x y) i (drop i (take n (joined xs ys ds))) ≡ first (standsAt x y) (take n (joined xs ys ds))
-  skipped zero l u = refl
-  skipped (suc i) l u =
-      let e = skipped i (omega arith) (λ k a b. u k a (omega arith)) in
-      rw (← add-one i) (first-more (standsAt x y) (take n (joined xs ys ds)) i (next xs ys ds hx hy hd n i x y (omega arith) (omega arith)) e (u i (omega arith) (omega arith)))
+blank-is : (e : Enemy) → isBlank e ≡ true → blankSlot ≡ e
+blank-is e h =
+    let two = and-left (eqb (e .x) 0 && eqb (e .y) 0) (eqb (e .dir) 0) h in
+    let a = eqb-true (e .x) 0 (and-left (eqb (e .x) 0) (eqb (e .y) 0) two) in
+    let b = eqb-true (e .y) 0 (and-right (eqb (e .x) 0) (eqb (e .y) 0) two) in
+    let d = eqb-true (e .dir) 0 (and-right (eqb (e .x) 0 && eqb (e .y) 0) (eqb (e .dir) 0) h) in
+    rw (a, b, d)
 
-  module _ {r : ℕ} (f : FirstSlot xs ys 0 n x y r) where
-    pub slot-found : r < n → At r (count (standsAt x y) (drop r (take n (joined xs ys ds)))) ≡ first (standsAt x y) (take n (joined xs ys ds))
-    slot-found l =
-        first-here (standsAt x y) (take n (joined xs ys ds)) r (next xs ys ds hx hy hd n r x y (omega arith) l) (skipped r (omega arith) (f .unmet)) (f .met l)
-
-    pub slot-none : n ≤ r → Nobody ≡ first (standsAt x y) (take n (joined xs ys ds))
-    slot-none l =
-        let e = skipped n (omega arith) (λ k a b. f .unmet k a (omega arith)) in
-        first-none (standsAt x y) (take n (joined xs ys ds)) n (taken-end n (joined xs ys ds) n (omega arith)) e
+-- taken apart and put together
+pub joined-parted : (n : ℕ) (es : List Enemy) → allOnMap es ≡ true → all isBlank (drop n es) ≡ true → joined n (spotsFrom n es) (upTo 0 dirOf n es) ≡ es
+unfolding joined
+joined-parted n [] p r = refl
+joined-parted zero (e ∷ es) p r =
+    ap (λ (t : List Enemy). blankSlot ∷ t) (joined-parted zero es (and-right (onMap e) (allOnMap es) p) (and-right (isBlank e) (all isBlank es) r))
+    ∙ ap (λ (a : Enemy). a ∷ es) (blank-is e (and-left (isBlank e) (all isBlank es) r))
+joined-parted (suc n) (e ∷ es) p r =
+    ap (λ (t : List Enemy). creature (place (e .x) (e .y)) (e .dir) ∷ t) (joined-parted n es (and-right (onMap e) (allOnMap es) p) r)
+    ∙ ap (λ (a : Enemy). a ∷ es) (creature-at e (map-inside e (and-left (onMap e) (allOnMap es) p) .0))

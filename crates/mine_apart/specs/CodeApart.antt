@@ -1,76 +1,92 @@
--- Creatures taken apart: the numbers of each part in a list of its own. No promise of a public call cites it.
-use mathlib.Core.Bool.{Bool, true, false, _&&_}
+-- Creatures taken apart into places and directions, and who stands where by places. No promise of a public call cites it.
+use mathlib.Core.Bool.{Bool, true, _&&_, not}
 use mathlib.Core.List.{List, [], _∷_}
 use mathlib.Core.Path.{_≡_}
-use Prim.Native.Nat.{ℕ, _<_, _≤_}
+use Prim.Native.Nat.{ℕ, zero, suc, _/_, _%_, _<_, _≤_}
 use lib.Dec.{eqb}
-use lib.ListN.{length, getD, take, drop}
-use Rattle.laws.specs.Lists.{count}
-use Rattle.found.specs.First.{first}
+use lib.ListN.{length}
+use Rattle.found.specs.First.{first, nobody}
 use Rattle.found.specs.declared.Found.{Found}
 use Rattle.mine_state.specs.declared.Mine.{Mine}
 use Rattle.mine_state.specs.declared.Enemy.{Enemy}
-use Rattle.mine_state.specs.State.{AREA, MAX-ENEMIES, standsAt, freeAt}
+use Rattle.mine_state.specs.State.{W, AREA, MAX-ENEMIES, place, emptyAt, blankSlot}
+use Rattle.mine_apart.specs.declared.Parts.{Parts}
+use Rattle.mine_state.specs.CodeState.{allOnMap}
 
-abbrev pub xOf : Enemy → ℕ
-xOf e = e .x
+-- the first n of a list by f, and d for each of the rest
+abbrev pub upTo : {A B : Type 0} → B → (A → B) → ℕ → List A → List B
+upTo d f n [] = []
+upTo d f zero (a ∷ l) = d ∷ upTo d f zero l
+upTo d f (suc n) (a ∷ l) = f a ∷ upTo d f n l
 
-abbrev pub yOf : Enemy → ℕ
-yOf e = e .y
+abbrev pub spotOf : Enemy → ℕ
+spotOf e = place (e .x) (e .y)
 
 abbrev pub dirOf : Enemy → ℕ
 dirOf e = e .dir
 
--- the creatures that the lists hold the parts of
-unfoldable pub joined : List ℕ → List ℕ → List ℕ → List Enemy
-joined [] ys ds = []
-joined (x ∷ xs) [] ds = []
-joined (x ∷ xs) (y ∷ ys) [] = []
-joined (x ∷ xs) (y ∷ ys) (d ∷ ds) = record { x = x; y = y; dir = d } ∷ joined xs ys ds
+-- the places of the first n creatures, and AREA, which is no place, for each of the rest
+abbrev pub spotsFrom : ℕ → List Enemy → List ℕ
+spotsFrom n es = upTo AREA spotOf n es
+
+-- the first n creatures taken apart
+abbrev pub parted : List Enemy → ℕ → Parts
+parted es n = record { spots = spotsFrom n es; dirs = upTo 0 dirOf n es }
+
+-- and put together again: a place tells its column and its row
+abbrev pub creature : ℕ → ℕ → Enemy
+creature s d = record { x = s % W; y = s / W; dir = d }
+
+unfoldable pub joined : ℕ → List ℕ → List ℕ → List Enemy
+joined n [] ds = []
+joined n (s ∷ ss) [] = []
+joined zero (s ∷ ss) (d ∷ ds) = blankSlot ∷ joined zero ss ds
+joined (suc n) (s ∷ ss) (d ∷ ds) = creature s d ∷ joined n ss ds
 
 -- the state m with this grid, these creatures and this player's place
 abbrev pub standing : Mine → List ℕ → List Enemy → ℕ → ℕ → ℕ → Mine
 standing m g es n px py = record { grid = g; falling = m .falling; px = px; py = py; enemies = es; count = n; coins = m .coins; needed = m .needed; dead = m .dead; won = m .won }
 
--- the lists have a number for each slot
-pub record Apart (xs ys ds : List ℕ) : Type 0 where
-  pub across : length xs ≡ MAX-ENEMIES
-  pub down : length ys ≡ MAX-ENEMIES
-  pub ways : length ds ≡ MAX-ENEMIES
-
--- the lent places, of which the first n are creatures'
-pub record Peopled (xs ys : List ℕ) (n : ℕ) : Type 0 where
-  pub across : length xs ≡ MAX-ENEMIES
-  pub down : length ys ≡ MAX-ENEMIES
+-- n creatures that can be taken apart
+pub record Takes (es : List Enemy) (n : ℕ) : Type 0 where
   pub few : n ≤ MAX-ENEMIES
+  pub placed : allOnMap es ≡ true
 
--- slot k holds (x, y)
-abbrev pub holds : List ℕ → List ℕ → ℕ → ℕ → ℕ → Bool
-holds xs ys x y k = eqb (getD xs k 0) x && eqb (getD ys k 0) y
+-- spots tell where the first n creatures stand
+pub record Spotted (es : List Enemy) (n : ℕ) (spots : List ℕ) : Type 0 where
+  pub placed : allOnMap es ≡ true
+  pub them : spots ≡ spotsFrom n es
 
--- r is the first slot that holds (x, y) from `from` on, where it is before `to`
-pub record FirstSlot (xs ys : List ℕ) (from to x y r : ℕ) : Type 0 where
-  pub unmet : (k : ℕ) → from ≤ k → k < r → holds xs ys x y k ≡ false
-  pub met : r < to → holds xs ys x y r ≡ true
+-- the lists have a number for each slot, and are n creatures' that are on the map
+pub record Apart (n : ℕ) (spots ds : List ℕ) : Type 0 where
+  pub slots : length spots ≡ MAX-ENEMIES
+  pub ways : length ds ≡ MAX-ENEMIES
+  pub few : n ≤ MAX-ENEMIES
+  pub spotted : Spotted (joined n spots ds) n spots
 
--- the lent places, of which the first n are creatures', and the first slot at (x, y)
-pub record Slotted (xs ys : List ℕ) (r n x y : ℕ) : Type 0 where
-  pub people : Peopled xs ys n
-  pub slot : FirstSlot xs ys 0 n x y r
+abbrev pub isSpot : ℕ → ℕ → Bool
+isSpot at s = eqb s at
 
--- the lent cells and places
-pub record Lent (g xs ys : List ℕ) (n : ℕ) : Type 0 where
+-- the first creature at a place and how many are there, or nobody
+abbrev pub firstSpot : ℕ → List ℕ → Found
+firstSpot at spots = first (isSpot at) spots
+
+-- free, by places
+unfoldable pub freeSpot : List ℕ → List ℕ → ℕ → ℕ → ℕ → Bool
+freeSpot g spots player x y = emptyAt g x y && not (eqb player (place x y)) && nobody (firstSpot (place x y) spots)
+
+-- lent places, and one to ask for
+pub record Asks (spots : List ℕ) (at : ℕ) : Type 0 where
+  pub slots : length spots ≡ MAX-ENEMIES
+  pub inside : at < AREA
+
+-- a lent grid and lent places
+pub record Lent (g spots : List ℕ) : Type 0 where
   pub cells : length g ≡ AREA
-  pub people : Peopled xs ys n
+  pub slots : length spots ≡ MAX-ENEMIES
 
--- whatever their directions, r is the first of the first n of them at (x, y) with how many are there, or nobody
-abbrev pub Sees : List ℕ → List ℕ → ℕ → ℕ → ℕ → Found → Type 0
-Sees xs ys n x y r = (ds : List ℕ) → length ds ≡ MAX-ENEMIES → r ≡ first (standsAt x y) (take n (joined xs ys ds))
-
--- and r is how many are there from slot i on
-abbrev pub Numbers : List ℕ → List ℕ → ℕ → ℕ → ℕ → ℕ → ℕ → Type 0
-Numbers xs ys i n x y r = (ds : List ℕ) → length ds ≡ MAX-ENEMIES → r ≡ count (standsAt x y) (drop i (take n (joined xs ys ds)))
-
--- whatever else a state holds that has the lent cells, creatures at the lent places and its player at (px, py): whether (x, y) is free
-abbrev pub Frees : List ℕ → List ℕ → List ℕ → ℕ → ℕ → ℕ → ℕ → ℕ → Bool → Type 0
-Frees g xs ys n px py x y r = (m : Mine) (ds : List ℕ) → length ds ≡ MAX-ENEMIES → r ≡ freeAt (standing m g (joined xs ys ds) n px py) x y
+-- spots and player tell where everyone stands
+pub record Stand (m : Mine) (spots : List ℕ) (player : ℕ) : Type 0 where
+  pub spotted : Spotted (m .enemies) (m .count) spots
+  pub home : m .px < W
+  pub you : player ≡ place (m .px) (m .py)

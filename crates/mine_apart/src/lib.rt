@@ -1,4 +1,4 @@
-// Block Mine's creatures taken apart into arrays of numbers, which are lent where creatures are not, and who stands where by them.
+// Block Mine's creatures taken apart into places and directions, which are lent where creatures are not, and who stands where by them.
 use found::Found;
 use mine_state::AREA;
 use mine_state::EMPTY;
@@ -6,67 +6,57 @@ use mine_state::Enemy;
 use mine_state::H;
 use mine_state::MAX_ENEMIES;
 use mine_state::W;
-ghost use mathlib.Core.List.{map};
 ghost use mathlib.Core.Path.{_≡_};
-ghost use Rattle.mine_apart.specs.CodeApart.{xOf, yOf, dirOf, joined, Apart, Peopled, Lent, FirstSlot, Slotted, Sees, Numbers, Frees};
+ghost use lib.ListN.{length, drop};
+ghost use Rattle.laws.specs.Lists.{any, count};
+ghost use Rattle.mine_state.specs.State.{MAX-ENEMIES};
+ghost use Rattle.mine_apart.specs.CodeApart.{Takes, parted, joined, Apart, isSpot, firstSpot, freeSpot, Asks, Lent};
 
-// As many creatures as the level has. A loop over as many slots, and one over the rest, is compiled without a counter.
-const FEW: usize = 2;
+// The place of nobody: of a slot past the count.
+pub const NOWHERE: u16 = 336;
 
-pub fn xs_of(enemies: [Enemy; MAX_ENEMIES]) -> [usize; MAX_ENEMIES]
-    ensures { λ r. ⌜ r ≡ map xOf enemies ⌝ }
-{
-    let mut out: [usize; MAX_ENEMIES] = [0; MAX_ENEMIES];
-    let mut i: usize = 0;
-    while i < MAX_ENEMIES {
-        let e = enemies[i];
-        out[i] = e.x;
-        i += 1;
-    }
-    out
+// The creatures' places and directions.
+pub struct Parts {
+    pub spots: [u16; MAX_ENEMIES],
+    pub dirs: [u8; MAX_ENEMIES],
 }
 
-pub fn ys_of(enemies: [Enemy; MAX_ENEMIES]) -> [usize; MAX_ENEMIES]
-    ensures { λ r. ⌜ r ≡ map yOf enemies ⌝ }
+pub fn parts_of(enemies: [Enemy; MAX_ENEMIES], count: usize) -> Parts
+    requires { ⌜ Takes enemies count ⌝ }
+    ensures { λ r. ⌜ r ≡ parted enemies count ⌝ }
 {
-    let mut out: [usize; MAX_ENEMIES] = [0; MAX_ENEMIES];
+    let mut spots: [u16; MAX_ENEMIES] = [NOWHERE; MAX_ENEMIES];
+    let mut dirs: [u8; MAX_ENEMIES] = [0; MAX_ENEMIES];
     let mut i: usize = 0;
-    while i < MAX_ENEMIES {
+    while i < count {
         let e = enemies[i];
-        out[i] = e.y;
+        let at = e.y * W + e.x;
+        spots[i] = at as u16;
+        dirs[i] = e.dir;
         i += 1;
     }
-    out
-}
-
-pub fn dirs_of(enemies: [Enemy; MAX_ENEMIES]) -> [u8; MAX_ENEMIES]
-    ensures { λ r. ⌜ r ≡ map dirOf enemies ⌝ }
-{
-    let mut out: [u8; MAX_ENEMIES] = [0; MAX_ENEMIES];
-    let mut i: usize = 0;
-    while i < MAX_ENEMIES {
-        let e = enemies[i];
-        out[i] = e.dir;
-        i += 1;
+    Parts {
+        spots: spots,
+        dirs: dirs,
     }
-    out
 }
 
 // The creatures put together again.
 pub fn enemies_of(
-    xs: &[usize; MAX_ENEMIES],
-    ys: &[usize; MAX_ENEMIES],
+    spots: &[u16; MAX_ENEMIES],
     dirs: &[u8; MAX_ENEMIES],
+    count: usize,
 ) -> [Enemy; MAX_ENEMIES]
-    requires { ⌜ Apart (now xs) (now ys) (now dirs) ⌝ }
-    ensures { λ r. ⌜ r ≡ joined (now (xs .entry)) (now (ys .entry)) (now (dirs .entry)) ⌝ }
+    requires { ⌜ Apart count (now spots) (now dirs) ⌝ }
+    ensures { λ r. ⌜ r ≡ joined count (now (spots .entry)) (now (dirs .entry)) ⌝ }
 {
     let mut out: [Enemy; MAX_ENEMIES] = [Enemy { x: 0, y: 0, dir: 0 }; MAX_ENEMIES];
     let mut i: usize = 0;
-    while i < MAX_ENEMIES {
+    while i < count {
+        let at = spots[i] as usize;
         out[i] = Enemy {
-            x: xs[i],
-            y: ys[i],
+            x: at % W,
+            y: at / W,
             dir: dirs[i],
         };
         i += 1;
@@ -74,22 +64,29 @@ pub fn enemies_of(
     out
 }
 
-// How many of the creatures from slot `from` on are at (x, y).
-fn number_from(
-    xs: &[usize; MAX_ENEMIES],
-    ys: &[usize; MAX_ENEMIES],
-    from: usize,
-    count: usize,
-    x: usize,
-    y: usize,
-) -> usize
-    requires { ⌜ Peopled (now xs) (now ys) count ⌝ }
-    ensures { λ r. ⌜ Numbers (now (xs .entry)) (now (ys .entry)) from count x y r ⌝ }
+// Somebody stands at a place: one look at all slots, without a branch.
+fn somebody(spots: &[u16; MAX_ENEMIES], at: u16) -> bool
+    requires { ⌜ length (now spots) ≡ MAX-ENEMIES ⌝ }
+    ensures { λ r. ⌜ r ≡ any (isSpot at) (now (spots .entry)) ⌝ }
+{
+    let mut some = false;
+    let mut i: usize = 0;
+    while i < MAX_ENEMIES {
+        some = some | (spots[i] == at);
+        i += 1;
+    }
+    some
+}
+
+// How many creatures from slot `from` on are at a place.
+fn number_from(spots: &[u16; MAX_ENEMIES], from: usize, at: u16) -> usize
+    requires { ⌜ length (now spots) ≡ MAX-ENEMIES ⌝ }
+    ensures { λ r. ⌜ r ≡ count (isSpot at) (drop from (now (spots .entry))) ⌝ }
 {
     let mut n: usize = 0;
     let mut i = from;
-    while i < count {
-        if (xs[i] == x) & (ys[i] == y) {
+    while i < MAX_ENEMIES {
+        if spots[i] == at {
             n += 1;
         }
         i += 1;
@@ -97,80 +94,35 @@ fn number_from(
     n
 }
 
-// The first slot at (x, y) from `from` on and before `to`, or `to`.
-fn slot_of(
-    xs: &[usize; MAX_ENEMIES],
-    ys: &[usize; MAX_ENEMIES],
-    from: usize,
-    to: usize,
-    x: usize,
-    y: usize,
-) -> usize
-    requires { ⌜ Peopled (now xs) (now ys) to ⌝ }
-    ensures { λ r. ⌜ FirstSlot (now (xs .entry)) (now (ys .entry)) from to x y r ⌝ }
+// The first creature at a place and how many are there, or nobody.
+pub fn enemy_at(spots: &[u16; MAX_ENEMIES], at: usize) -> Found
+    requires { ⌜ Asks (now spots) at ⌝ }
+    ensures { λ r. ⌜ r ≡ firstSpot at (now (spots .entry)) ⌝ }
 {
-    let mut i = from;
-    while i < to {
-        if (xs[i] == x) & (ys[i] == y) {
-            return i;
+    let place = at as u16;
+    if !somebody(spots, place) {
+        return Found::Nobody;
+    }
+    let mut i: usize = 0;
+    while i < MAX_ENEMIES {
+        if spots[i] == place {
+            return Found::At(i, number_from(spots, i, place));
         }
         i += 1;
-    }
-    to
-}
-
-// The first slot at (x, y), or one past the creatures. It is asked at many cells, and small enough to be inlined there.
-pub fn slot_at(
-    xs: &[usize; MAX_ENEMIES],
-    ys: &[usize; MAX_ENEMIES],
-    count: usize,
-    x: usize,
-    y: usize,
-) -> usize
-    requires { ⌜ Peopled (now xs) (now ys) count ⌝ }
-    ensures { λ r. ⌜ FirstSlot (now (xs .entry)) (now (ys .entry)) 0 count x y r ⌝ }
-{
-    let i = slot_of(xs, ys, 0, FEW, x, y);
-    if count <= FEW {
-        return i;
-    }
-    if i < FEW {
-        return i;
-    }
-    slot_of(xs, ys, FEW, MAX_ENEMIES, x, y)
-}
-
-// The first creature at (x, y) and how many are there, or nobody, by the first slot there.
-pub fn enemy_at(
-    xs: &[usize; MAX_ENEMIES],
-    ys: &[usize; MAX_ENEMIES],
-    slot: usize,
-    count: usize,
-    x: usize,
-    y: usize,
-) -> Found
-    requires { ⌜ Slotted (now xs) (now ys) slot count x y ⌝ }
-    ensures { λ r. ⌜ Sees (now (xs .entry)) (now (ys .entry)) count x y r ⌝ }
-{
-    if slot < count {
-        return Found::At(slot, number_from(xs, ys, slot, count, x, y));
     }
     Found::Nobody
 }
 
-// A cell an object may be pushed into: empty terrain with nobody standing on it.
+// A cell an object may fall, roll or be pushed into: empty terrain with nobody standing on it.
 pub fn free(
     grid: &[u8; AREA],
-    xs: &[usize; MAX_ENEMIES],
-    ys: &[usize; MAX_ENEMIES],
-    count: usize,
-    px: usize,
-    py: usize,
+    spots: &[u16; MAX_ENEMIES],
+    player: usize,
     x: usize,
     y: usize,
 ) -> bool
-    requires { ⌜ Lent (now grid) (now xs) (now ys) count ⌝ }
-    ensures { λ r. ⌜ Frees (now (grid .entry)) (now (xs .entry)) (now (ys .entry)) count px py x y r ⌝ }
+    requires { ⌜ Lent (now grid) (now spots) ⌝ }
+    ensures { λ r. ⌜ r ≡ freeSpot (now (grid .entry)) (now (spots .entry)) player x y ⌝ }
 {
     if W <= x {
         return false;
@@ -182,12 +134,8 @@ pub fn free(
     if grid[at] != EMPTY {
         return false;
     }
-    if (px == x) & (py == y) {
+    if player == at {
         return false;
     }
-    let slot = slot_at(xs, ys, count, x, y);
-    if let Found::At(_, _) = enemy_at(xs, ys, slot, count, x, y) {
-        return false;
-    }
-    true
+    !somebody(spots, at as u16)
 }

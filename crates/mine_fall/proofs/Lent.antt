@@ -11,9 +11,9 @@ use Rattle.found.specs.First.{nobody}
 use Rattle.found.specs.declared.Found.{Found}
 use Rattle.mine_state.specs.declared.Mine.{Mine}
 use Rattle.mine_state.specs.State.{W, H, EMPTY, place, codeIn, codeAt, emptyAt, playerAt, firstAt}
-use Rattle.mine_fall.specs.CodeSpots.{firstSpot, freeSpot, Stand}
+use Rattle.mine_apart.specs.CodeApart.{firstSpot, freeSpot, Stand}
 use Rattle.mine_state.proofs.Cells.{empty-inside}
-use Rattle.mine_fall.proofs.Places.{free-spot, player-spot, first-spot}
+use Rattle.mine_apart.proofs.Places.{free-spot, player-spot, first-spot}
 use Rattle.mine_rules.specs.Gravity.{isObject, rested, openSide, overOther, cellFall}
 use Rattle.mine_fall.specs.CodeFalls.{Quietly, openSpot, lent}
 
@@ -56,7 +56,7 @@ module _ {m : Mine} {spots : List ℕ} {player : ℕ} (s : Stand m spots player)
   off-player x y h e = sym (player-spot s x y h) ∙ ne-eqb player (place x y) e
 
   pub found : (x y : ℕ) → x < W → y < H → {r : Found} → firstSpot (place x y) spots ≡ r → firstAt m x y ≡ r
-  found x y hx hy e = sym (first-spot (s .spotted) x y hx hy) ∙ e
+  found x y hx hy e = sym (first-spot m (s .spotted) x y hx hy) ∙ e
 
 -- the last case of a cell: over anything but empty and objects
 pub cell-rests : (m : Mine) (x y : ℕ) → isObject (codeAt m x y) ≡ true → leb H (y + 1) ≡ false → eqb (codeAt m x (y + 1)) EMPTY ≡ false → isObject (codeAt m x (y + 1)) ≡ false → cellFall m x y ≡ rested m x y

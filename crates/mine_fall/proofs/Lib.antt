@@ -1,4 +1,3 @@
-pub mod Places
 pub mod Lent
 pub mod Loops
 pub mod Parts

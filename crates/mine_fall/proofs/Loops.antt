@@ -8,7 +8,7 @@ use Rattle.laws.specs.Lists.{across, downTo}
 use Rattle.laws.proofs.Folds.{across-more, across-end, across-still, down-more, down-end}
 use Rattle.mine_state.specs.declared.Mine.{Mine}
 use Rattle.mine_state.specs.State.{W, place, codeAt}
-use Rattle.mine_fall.specs.CodeSpots.{spotsFrom, Stand}
+use Rattle.mine_apart.specs.CodeApart.{Spotted, Stand}
 use Rattle.mine_rules.specs.Gravity.{isObject, cellFall, rowFall}
 use Rattle.mine_fall.specs.CodeFalls.{Quietly}
 use Rattle.mine_rules.proofs.GravityKeeps.{cell-keeps}
@@ -25,46 +25,44 @@ rowsLeft y s = downTo rowFall y s
 abbrev pub cellsLeft : ℕ → ℕ → Mine → Mine
 cellsLeft y x s = rowsLeft y (across (cellOf y) (W - x) x s)
 
--- the state so far is sound, the places tell where the creatures stand, and what is left to do gives R
-pub record During (R : Mine) (left : Mine → Mine) (spots : List ℕ) (s : Mine) : Type 0 where
+-- the state so far is sound, and what is left to do gives R
+pub record During (R : Mine) (left : Mine → Mine) (s : Mine) : Type 0 where
   pub sound : Sound s
-  pub them : spots ≡ spotsFrom (s .count) (s .enemies)
   pub same : left s ≡ R
 
-pub stands : {R : Mine} {left : Mine → Mine} {spots : List ℕ} {s : Mine} → During R left spots s → Stand s spots (place (s .px) (s .py))
-stands d = record { spotted = record { placed = d .sound .placed; them = d .them }; home = d .sound .home .0; you = refl }
+pub stands : {R : Mine} {left : Mine → Mine} {spots : List ℕ} (s : Mine) → During R left s → Spotted (s .enemies) (s .count) spots → Stand s spots (place (s .px) (s .py))
+stands s d w = record { spotted = w; home = d .sound .home .0; you = refl }
 
 cell-still : (s : Mine) (x y : ℕ) → isObject (codeAt s x y) ≡ false → cellFall s x y ≡ s
 unfolding cellFall
 cell-still s x y e = rw e
 
-module _ {R : Mine} {spots : List ℕ} where
+module _ {R : Mine} where
   -- a cell is done
-  pub turn : {spots′ : List ℕ} (y x : ℕ) (s : Mine) {s′ : Mine} → x < W → During R (cellsLeft y x) spots s → cellFall s x y ≡ s′ → spots′ ≡ spotsFrom (s′ .count) (s′ .enemies) → During R (cellsLeft y (x + 1)) spots′ s′
-  turn y x s h d e t =
+  pub turn : (y x : ℕ) (s : Mine) {s′ : Mine} → x < W → During R (cellsLeft y x) s → cellFall s x y ≡ s′ → During R (cellsLeft y (x + 1)) s′
+  turn y x s h d e =
       record {
         sound = subst Sound e (cell-keeps sound-keeps s x y h (d .sound));
-        them = t;
         same = ap (λ (u : Mine). cellsLeft y (x + 1) u) (sym e) ∙ ap (rowsLeft y) (across-more (cellOf y) W x s h refl) ∙ d .same;
       }
 
   -- a row is begun, is done, and is passed over where it has no object
-  pub row-begins : (y : ℕ) (s : Mine) → 0 < y → During R (rowsLeft y) spots s → During R (cellsLeft (y - 1) 0) spots s
+  pub row-begins : (y : ℕ) (s : Mine) → 0 < y → During R (rowsLeft y) s → During R (cellsLeft (y - 1) 0) s
   unfolding rowFall
-  row-begins y s h d = record { sound = d .sound; them = d .them; same = down-more rowFall y s h (d .same) }
+  row-begins y s h d = record { sound = d .sound; same = down-more rowFall y s h (d .same) }
 
-  pub row-ends : (y x : ℕ) (s : Mine) → W ≤ x → During R (cellsLeft y x) spots s → During R (rowsLeft y) spots s
+  pub row-ends : (y x : ℕ) (s : Mine) → W ≤ x → During R (cellsLeft y x) s → During R (rowsLeft y) s
   row-ends y x s h d =
-      record { sound = d .sound; them = d .them; same = ap (rowsLeft y) (across-end (cellOf y) W x s h refl) ∙ d .same }
+      record { sound = d .sound; same = ap (rowsLeft y) (across-end (cellOf y) W x s h refl) ∙ d .same }
 
-  pub row-passed : (y : ℕ) (s : Mine) → Quietly (s .grid) y W → During R (cellsLeft y 0) spots s → During R (rowsLeft y) spots s
+  pub row-passed : (y : ℕ) (s : Mine) → Quietly (s .grid) y W → During R (cellsLeft y 0) s → During R (rowsLeft y) s
   row-passed y s q d =
       let e = across-still (cellOf y) W W 0 s (omega arith) (λ j h. cell-still s j y (q j h)) in
-      record { sound = d .sound; them = d .them; same = ap (rowsLeft y) (sym e) ∙ d .same }
+      record { sound = d .sound; same = ap (rowsLeft y) (sym e) ∙ d .same }
 
-  pub rows-done : (y : ℕ) (s : Mine) → y ≤ 0 → During R (rowsLeft y) spots s → s ≡ R
+  pub rows-done : (y : ℕ) (s : Mine) → y ≤ 0 → During R (rowsLeft y) s → s ≡ R
   rows-done y s h d = down-end rowFall y s h (d .same)
 
 -- what is left to do gives R by way of another state
-pub onwards : {R R′ : Mine} {left : Mine → Mine} {spots : List ℕ} {s : Mine} → R ≡ R′ → During R left spots s → During R′ left spots s
-onwards e d = record { sound = d .sound; them = d .them; same = d .same ∙ e }
+pub onwards : {R R′ : Mine} {left : Mine → Mine} {s : Mine} → R ≡ R′ → During R left s → During R′ left s
+onwards e d = record { sound = d .sound; same = d .same ∙ e }

@@ -1,23 +1,23 @@
--- Places and creatures by the arrays that they are taken apart into. Assumes nothing.
-use mathlib.Core.Bool.{Bool, true, false, cond}
+-- Creatures by the arrays that they are taken apart into, and one that goes. Assumes nothing.
+use mathlib.Core.Bool.{Bool, true, false}
 use mathlib.Core.List.{List, []}
-use mathlib.Core.Path.{_≡_, sym, _∙_, ap, subst}
-use Prim.Native.Nat.{ℕ, _-_, _<_}
+use mathlib.Core.Path.{_≡_, refl, sym, _∙_, ap, subst}
+use Prim.Native.Nat.{ℕ, zero, suc, _-_, _<_, _≤_}
+use native.Mathlib.Nat.{not-suc-le-zero}
 use native.Mathlib.Omega.{arith}
-use lib.Dec.{ltb}
 use lib.ListN.{length, getD, set, length-set}
+use Rattle.laws.proofs.Lists.{all-set}
 use Rattle.mine_state.specs.declared.Mine.{Mine}
 use Rattle.mine_state.specs.declared.Enemy.{Enemy}
-use Rattle.mine_state.specs.State.{AREA, MAX-ENEMIES, place, blankSlot}
-use Rattle.mine_fall.specs.CodeSpots.{spotOr, spotsFrom}
-use Rattle.mine_state.proofs.Creatures.{map-inside, slot-on-map}
-use Rattle.mine_fall.proofs.Places.{spot-slot, length-spots}
-use Rattle.mine_apart.specs.CodeApart.{joined, Apart}
-use Rattle.mine_apart.proofs.Joined.{length-joined, joined-at, joined-set}
+use Rattle.mine_state.specs.State.{AREA, blankSlot}
+use Rattle.mine_state.proofs.Creatures.{slot-on-map}
+use Rattle.mine_apart.specs.CodeApart.{joined, Spotted, Apart}
+use Rattle.mine_apart.proofs.Joined.{length-joined, joined-at, joined-set, joined-less}
+use Rattle.mine_apart.proofs.Places.{spots-without}
 use Rattle.mine_rules.specs.Gravity.{without}
 use Rattle.mine_fall.specs.declared.Fallen.{Fallen}
-use Rattle.mine_fall.specs.CodePlaces.{Placed, left, whole}
-use Rattle.mine_state.specs.CodeState.{onMap, allOnMap, Sound}
+use Rattle.mine_fall.specs.CodePlaces.{left, whole}
+use Rattle.mine_state.specs.CodeState.{onMap, Sound}
 
 -- a state, where it doesn't matter which
 abbrev pub nothing : Mine
@@ -30,46 +30,45 @@ numbers n c d = record { count = n; coins = c; dead = d }
 pub sound-whole : (m m′ : Mine) {es : List Enemy} → es ≡ m .enemies → Sound m → Sound (whole m′ (m .px) (m .py) (m .grid) (m .falling) es (numbers (m .count) (m .coins) (m .dead)))
 sound-whole m m′ e s = rw e (record { cells = s .cells; marks = s .marks; slots = s .slots; few = s .few; placed = s .placed; home = s .home; coins = s .coins })
 
-module _ {xs ys ds : List ℕ} (a : Apart xs ys ds) where
-  long : length ys ≡ length xs
-  long = a .down ∙ sym (a .across)
+-- the creatures where the last takes the slot of one that goes
+abbrev closed : List Enemy → ℕ → ℕ → List Enemy
+closed es k last = set (set es k (getD es last blankSlot)) last blankSlot
 
-  wide : length ds ≡ length xs
-  wide = a .ways ∙ sym (a .across)
+joined-closed : (n : ℕ) (ss ds : List ℕ) (k : ℕ) → length ds ≡ length ss → k < n → n ≤ length ss → joined (n - 1) (left ss k (n - 1) AREA) (left ds k (n - 1) 0) ≡ closed (joined n ss ds) k (n - 1)
+joined-closed zero ss ds k l h b = absurd (not-suc-le-zero h)
+joined-closed (suc n) ss ds k l h b =
+    let q : suc n - 1 ≡ n = omega arith in
+    rw q
+    (joined-less n (set ss k (getD ss n 0)) (set ds k (getD ds n 0)) AREA 0 (simp length-set l)
+    ∙ ap (λ (t : List Enemy). set t n blankSlot) (joined-set (suc n) ss ds k (getD ss n 0) (getD ds n 0) l h ∙ ap (set (joined (suc n) ss ds) k) (sym (joined-at (suc n) ss ds n l (omega arith) (omega arith)))))
 
-  pub slots : length (joined xs ys ds) ≡ MAX-ENEMIES
-  slots = length-joined xs ys ds long wide ∙ a .across
+-- a creature goes, the last takes its slot
+module _ {n : ℕ} {spots ds : List ℕ} (a : Apart n spots ds) (k : ℕ) (h : k < n) where
+  wide : length ds ≡ length spots
+  wide = a .ways ∙ sym (a .slots)
 
-  -- the places of creatures that are on the map
-  pub placed : allOnMap (joined xs ys ds) ≡ true → Placed xs ys
-  placed p =
+  joined-left : joined (n - 1) (left spots k (n - 1) AREA) (left ds k (n - 1) 0) ≡ closed (joined n spots ds) k (n - 1)
+  joined-left = joined-closed n spots ds k wide h (omega (arith, a .few, a .slots))
+
+  spotted-left : Spotted (closed (joined n spots ds) k (n - 1)) (n - 1) (left spots k (n - 1) AREA)
+  spotted-left =
+      let es = joined n spots ds in
+      let p = a .spotted .placed in
       record {
-        across = a .across;
-        down = a .down;
-        inside = λ i. map-inside (record { x = getD xs i 0; y = getD ys i 0; dir = getD ds i 0 }) (subst (λ (e : Enemy). onMap e ≡ true) (joined-at xs ys ds i long wide) (slot-on-map (joined xs ys ds) i p));
+        placed = all-set onMap (set es k (getD es (n - 1) blankSlot)) (n - 1) blankSlot (all-set onMap es k (getD es (n - 1) blankSlot) p (slot-on-map es (n - 1) p)) refl;
+        them = ap (λ (l : List ℕ). left l k (n - 1) AREA) (a .spotted .them) ∙ sym (spots-without n es k h (omega (arith, a .few, a .slots, length-joined n spots ds wide)));
       }
 
-  pub spot-at : (n i : ℕ) → i < MAX-ENEMIES → cond (ltb i n) (place (getD xs i 0) (getD ys i 0)) AREA ≡ getD (spotsFrom n (joined xs ys ds)) i 0
-  spot-at n i h = sym (spot-slot n (joined xs ys ds) i (omega (arith, slots)) ∙ ap (spotOr (ltb i n)) (joined-at xs ys ds i long wide))
+  pub apart-left : Apart (n - 1) (left spots k (n - 1) AREA) (left ds k (n - 1) 0)
+  apart-left =
+      record {
+        slots = simp length-set (a .slots);
+        ways = simp length-set (a .ways);
+        few = omega (arith, a .few);
+        spotted = subst (λ (es : List Enemy). Spotted es (n - 1) (left spots k (n - 1) AREA)) (sym joined-left) spotted-left;
+      }
 
-  pub spots-long : (n : ℕ) → length (spotsFrom n (joined xs ys ds)) ≡ MAX-ENEMIES
-  spots-long n = length-spots n (joined xs ys ds) ∙ slots
-
-  -- a creature goes, the last takes its place
-  module _ (k last : ℕ) where
-    abbrev moved : Enemy
-    moved = record { x = getD xs last 0; y = getD ys last 0; dir = getD ds last 0 }
-
-    pub joined-left : joined (left xs k last 0) (left ys k last 0) (left ds k last 0) ≡ set (set (joined xs ys ds) k (getD (joined xs ys ds) last blankSlot)) last blankSlot
-    joined-left =
-        joined-set (set xs k (moved .x)) (set ys k (moved .y)) (set ds k (moved .dir)) last blankSlot (simp length-set long) (simp length-set wide)
-        ∙ ap (λ (l : List Enemy). set l last blankSlot) (joined-set xs ys ds k moved long wide ∙ ap (set (joined xs ys ds) k) (sym (joined-at xs ys ds last long wide)))
-
-    pub apart-left : Apart (left xs k last 0) (left ys k last 0) (left ds k last 0)
-    apart-left = record { across = simp length-set (a .across); down = simp length-set (a .down); ways = simp length-set (a .ways) }
-
-    pub without-one : (m : Mine) (px py : ℕ) (g : List ℕ) (f : List Bool) (c : ℕ) (d : Bool) (n : ℕ) → n - 1 ≡ last
-        → without (whole m px py g f (joined xs ys ds) (numbers n c d)) k ≡ whole m px py g f (joined (left xs k last 0) (left ys k last 0) (left ds k last 0)) (numbers last c d)
-    unfolding without
-    without-one m px py g f c d n e =
-        rw e (ap (λ (es : List Enemy). whole m px py g f es (numbers last c d)) (sym joined-left))
+  pub without-one : (m : Mine) (px py : ℕ) (g : List ℕ) (f : List Bool) (c : ℕ) (d : Bool)
+      → without (whole m px py g f (joined n spots ds) (numbers n c d)) k ≡ whole m px py g f (joined (n - 1) (left spots k (n - 1) AREA) (left ds k (n - 1) 0)) (numbers (n - 1) c d)
+  unfolding without
+  without-one m px py g f c d = ap (λ (es : List Enemy). whole m px py g f es (numbers (n - 1) c d)) (sym joined-left)

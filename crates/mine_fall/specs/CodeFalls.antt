@@ -6,7 +6,7 @@ use Prim.Native.Nat.{ℕ, _+_, _<_}
 use lib.ListN.{length}
 use Rattle.mine_state.specs.declared.Mine.{Mine}
 use Rattle.mine_state.specs.State.{AREA, MAX-ENEMIES, codeIn}
-use Rattle.mine_fall.specs.CodeSpots.{freeSpot, Stand}
+use Rattle.mine_apart.specs.CodeApart.{freeSpot, Stand}
 use Rattle.mine_state.specs.Change.{withGrid, withMarks, withCoins, killed}
 use Rattle.mine_fall.specs.declared.cells.Fell.{Fell}
 use Rattle.mine_fall.specs.declared.cells.Fell.the-variants.{Quiet, Collected, Crushed, Squashed}

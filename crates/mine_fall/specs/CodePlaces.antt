@@ -6,21 +6,10 @@ use Prim.Native.Nat.{ℕ, _<_}
 use lib.ListN.{length, getD, set}
 use Rattle.mine_state.specs.declared.Mine.{Mine}
 use Rattle.mine_state.specs.declared.Enemy.{Enemy}
-use Rattle.mine_state.specs.State.{W, H, MAX-ENEMIES}
-use Rattle.mine_fall.specs.CodeSpots.{spotsFrom}
+use Rattle.mine_state.specs.State.{MAX-ENEMIES}
 use Rattle.mine_apart.specs.CodeApart.{joined, Apart}
 use Rattle.mine_fall.specs.declared.Fallen.{Fallen}
 use Rattle.mine_state.specs.CodeState.{Sound}
-
--- the lent places are on the grid
-pub record Placed (xs ys : List ℕ) : Type 0 where
-  pub across : length xs ≡ MAX-ENEMIES
-  pub down : length ys ≡ MAX-ENEMIES
-  pub inside : (i : ℕ) → (getD xs i 0 < W) × (getD ys i 0 < H)
-
--- whatever the directions, r are the places of the first n creatures
-abbrev pub Spots : List ℕ → List ℕ → ℕ → List ℕ → Type 0
-Spots xs ys n r = (ds : List ℕ) → length ds ≡ MAX-ENEMIES → r ≡ spotsFrom n (joined xs ys ds)
 
 -- two slots
 pub record Slots (l : List ℕ) (k last : ℕ) : Type 0 where
@@ -36,11 +25,11 @@ left l k last b = set (set l k (getD l last 0)) last b
 abbrev pub whole : Mine → ℕ → ℕ → List ℕ → List Bool → List Enemy → Fallen → Mine
 whole m px py g f es s = record { grid = g; falling = f; px = px; py = py; enemies = es; count = s .count; coins = s .coins; needed = m .needed; dead = s .dead; won = m .won }
 
-pub record Falling (g : List ℕ) (f : List Bool) (xs ys ds : List ℕ) (s : Fallen) (px py : ℕ) : Type 0 where
-  pub parts : Apart xs ys ds
-  pub sound : (m : Mine) → Sound (whole m px py g f (joined xs ys ds) s)
+pub record Falling (g : List ℕ) (f : List Bool) (spots ds : List ℕ) (s : Fallen) (px py : ℕ) : Type 0 where
+  pub parts : Apart (s .count) spots ds
+  pub sound : (m : Mine) → Sound (whole m px py g f (joined (s .count) spots ds) s)
 
 -- whatever else a state holds, the rule makes the second arrays and numbers of the first
-pub record Dropped (rule : Mine → Mine) (px py : ℕ) (g : List ℕ) (f : List Bool) (xs ys ds : List ℕ) (s : Fallen) (g′ : List ℕ) (f′ : List Bool) (xs′ ys′ ds′ : List ℕ) (r : Fallen) : Type 0 where
-  pub parts : Apart xs′ ys′ ds′
-  pub does : (m : Mine) → rule (whole m px py g f (joined xs ys ds) s) ≡ whole m px py g′ f′ (joined xs′ ys′ ds′) r
+pub record Dropped (rule : Mine → Mine) (px py : ℕ) (g : List ℕ) (f : List Bool) (spots ds : List ℕ) (s : Fallen) (g′ : List ℕ) (f′ : List Bool) (spots′ ds′ : List ℕ) (r : Fallen) : Type 0 where
+  pub parts : Apart (r .count) spots′ ds′
+  pub does : (m : Mine) → rule (whole m px py g f (joined (s .count) spots ds) s) ≡ whole m px py g′ f′ (joined (r .count) spots′ ds′) r

@@ -1,3 +1,2 @@
-pub mod CodeSpots
 pub mod CodeFalls
 pub mod CodePlaces

@@ -1,7 +1,7 @@
 // What happens at a cell, on the lent grid, marks and places.
-use crate::spots::enemy_at;
-use crate::spots::free;
 use found::Found;
+use mine_apart::enemy_at;
+use mine_apart::free;
 use mine_state::AREA;
 use mine_state::BOULDER;
 use mine_state::COIN;
@@ -13,7 +13,7 @@ ghost use mathlib.Core.Bool.{true, false};
 ghost use mathlib.Core.Path.{_≡_};
 ghost use Prim.Native.Nat.{_<_, _+_};
 ghost use Rattle.mine_state.specs.State.{W};
-ghost use Rattle.mine_fall.specs.CodeSpots.{Lent};
+ghost use Rattle.mine_apart.specs.CodeApart.{Lent};
 ghost use Rattle.mine_fall.specs.declared.cells.Fell.the-variants.{Quiet};
 ghost use Rattle.mine_rules.specs.Gravity.{isObject, carried, overPlayer, overEmpty, rolled, cellFall};
 ghost use Rattle.mine_fall.specs.CodeFalls.{LentCell, LentCells, Reached, openSpot, Quietly, Does, Falls};
@@ -36,7 +36,7 @@ fn is_object(t: u8) -> bool
 // Two cells of a column are free.
 fn open_side(
     grid: &[u8; AREA],
-    spots: &[usize; MAX_ENEMIES],
+    spots: &[u16; MAX_ENEMIES],
     player: usize,
     x: usize,
     y: usize,
@@ -109,7 +109,7 @@ fn over_player(grid: &mut [u8; AREA], falling: &mut [bool; AREA], x: usize, y: u
 fn over_empty(
     grid: &mut [u8; AREA],
     falling: &mut [bool; AREA],
-    spots: &[usize; MAX_ENEMIES],
+    spots: &[u16; MAX_ENEMIES],
     player: usize,
     x: usize,
     y: usize,
@@ -139,7 +139,7 @@ fn over_empty(
 fn roll(
     grid: &mut [u8; AREA],
     falling: &mut [bool; AREA],
-    spots: &[usize; MAX_ENEMIES],
+    spots: &[u16; MAX_ENEMIES],
     player: usize,
     x: usize,
     y: usize,
@@ -163,7 +163,7 @@ fn roll(
 pub fn cell_fall(
     grid: &mut [u8; AREA],
     falling: &mut [bool; AREA],
-    spots: &[usize; MAX_ENEMIES],
+    spots: &[u16; MAX_ENEMIES],
     player: usize,
     x: usize,
     y: usize,

@@ -1,4 +1,3 @@
 pub mod Turns
-pub mod Ahead
 pub mod Reading
 pub mod Applied

@@ -5,17 +5,17 @@ use mathlib.Core.Path.{_≡_, refl, sym, _∙_, ap, subst}
 use Prim.Native.Nat.{ℕ, _+_, _-_, _%_, _<_, _≤_}
 use native.Mathlib.Omega.{arith}
 use lib.Dec.{eqb, leb}
-use lib.ListN.{length, getD, take, drop, set, length-set}
+use lib.ListN.{length, getD, drop, set, length-set}
 use borrow.Author.Tests.{eq-eqb, ne-eqb, lt-ltb, le-leb, leb-true}
 use Rattle.laws.specs.Lists.{all, across}
 use Rattle.laws.proofs.Choice.{cond-both}
 use Rattle.laws.proofs.Lists.{drop-one, all-at, all-set}
 use Rattle.laws.proofs.Folds.{across-turn, across-end}
-use Rattle.found.specs.First.{first, nobody}
+use Rattle.found.specs.First.{nobody}
 use Rattle.found.specs.declared.Found.the-variants.{At, Nobody}
 use Rattle.mine_state.specs.declared.Mine.{Mine}
 use Rattle.mine_state.specs.declared.Enemy.{Enemy}
-use Rattle.mine_state.specs.State.{W, H, EMPTY, codeIn, emptyAt, standsAt, firstAt}
+use Rattle.mine_state.specs.State.{W, H, EMPTY, place, codeIn, emptyAt, firstAt, blankSlot}
 use Rattle.mine_state.specs.Change.{withCreature}
 use Rattle.mine_state.proofs.Cells.{code-empty}
 use Rattle.mine_state.proofs.Creatures.{map-inside, slot-on-map}
@@ -26,16 +26,17 @@ use Rattle.mine_rules.specs.declared.Step.the-variants.{Goes, Stays}
 use Rattle.mine_rules.specs.Ways.{nextCell}
 use Rattle.mine_rules.specs.Tick.{goesTo, wayOf, turns, orElse, chosen, creatureStepped, tickOne, enemiesMoved}
 use Rattle.mine_rules.proofs.Next.{next-inside}
-use Rattle.mine_apart.specs.CodeApart.{joined, standing, Apart}
-use Rattle.mine_apart.proofs.Joined.{joined-at, joined-set}
+use Rattle.mine_apart.specs.CodeApart.{spotOf, creature, joined, standing, Spotted, Apart, firstSpot}
+use Rattle.mine_apart.proofs.Joined.{joined-at, joined-set, creature-at}
+use Rattle.mine_apart.proofs.Places.{spots-set, first-spot}
 use Rattle.mine_moves.specs.CodeSteps.{deadIf}
-use Rattle.mine_state.specs.CodeState.{onMap, allOnMap}
+use Rattle.mine_state.specs.CodeState.{onMap}
 use Rattle.mine_rules.specs.CodeWays.{OnGrid}
 
 -- the cell ahead, as the code asks for it
-module _ (m : Mine) {g : List ℕ} {es : List Enemy} {n : ℕ} (same : m .grid ≡ g) (them : m .enemies ≡ es) (many : m .count ≡ n) (d x y : ℕ) (on : OnGrid x y) where
-  seen : firstAt m x y ≡ first (standsAt x y) (take n es)
-  seen = ap (λ (k : ℕ). first (standsAt x y) (take k (m .enemies))) many ∙ ap (λ (l : List Enemy). first (standsAt x y) (take n l)) them
+module _ (m : Mine) {g spots : List ℕ} (same : m .grid ≡ g) (them : Spotted (m .enemies) (m .count) spots) (d x y : ℕ) (on : OnGrid x y) where
+  seen : firstAt m x y ≡ firstSpot (place x y) spots
+  seen = sym (first-spot m them x y (on .across) (on .down))
 
   empty-there : emptyAt (m .grid) x y ≡ eqb (codeIn g x y) EMPTY
   empty-there = code-empty (m .grid) x y (on .across) (on .down) ∙ ap (λ (l : List ℕ). eqb (codeIn l x y) EMPTY) same
@@ -43,10 +44,10 @@ module _ (m : Mine) {g : List ℕ} {es : List Enemy} {n : ℕ} (same : m .grid �
   pub goes-blocked : (codeIn g x y ≡ EMPTY → ⊥) → Stays ≡ goesTo m d (Cell x y)
   goes-blocked n = simp (empty-there ∙ ne-eqb (codeIn g x y) EMPTY n)
 
-  pub goes-met : {i k : ℕ} → codeIn g x y ≡ EMPTY → first (standsAt x y) (take n es) ≡ At i k → Stays ≡ goesTo m d (Cell x y)
+  pub goes-met : {i k : ℕ} → codeIn g x y ≡ EMPTY → firstSpot (place x y) spots ≡ At i k → Stays ≡ goesTo m d (Cell x y)
   goes-met e f = simp (empty-there ∙ eq-eqb (codeIn g x y) EMPTY e, seen ∙ f)
 
-  pub goes-open : codeIn g x y ≡ EMPTY → first (standsAt x y) (take n es) ≡ Nobody → Goes (record { x = x; y = y; dir = d }) ≡ goesTo m d (Cell x y)
+  pub goes-open : codeIn g x y ≡ EMPTY → firstSpot (place x y) spots ≡ Nobody → Goes (record { x = x; y = y; dir = d }) ≡ goesTo m d (Cell x y)
   goes-open e f = simp (empty-there ∙ eq-eqb (codeIn g x y) EMPTY e, seen ∙ f)
 
 -- the turns in order, one at a time
@@ -99,74 +100,85 @@ abbrev nothing : Mine
 nothing = record { grid = []; falling = []; px = 0; py = 0; enemies = []; count = 0; coins = 0; needed = 0; dead = false; won = false }
 
 -- The loop over the creatures, in place: the state so far, whatever else it holds.
-abbrev soFar : List ℕ → ℕ → ℕ → ℕ → List ℕ → List ℕ → List ℕ → Bool → Mine → Mine
-soFar g n px py xs ys ds b m = deadIf b (standing m g (joined xs ys ds) n px py)
+abbrev soFar : List ℕ → ℕ → ℕ → ℕ → List ℕ → List ℕ → Bool → Mine → Mine
+soFar g n px py spots ds b m = deadIf b (standing m g (joined n spots ds) n px py)
 
 -- The creatures are on the map, and what is left to do gives R.
-pub record Between (g : List ℕ) (n px py : ℕ) (R : Mine → Mine) (xs ys ds : List ℕ) (b : Bool) (i : ℕ) : Type 0 where
-  pub parts : Apart xs ys ds
-  pub placed : allOnMap (joined xs ys ds) ≡ true
-  pub same : (m : Mine) → across tickOne (n - i) i (soFar g n px py xs ys ds b m) ≡ R m
+pub record Between (g : List ℕ) (n px py : ℕ) (R : Mine → Mine) (spots ds : List ℕ) (b : Bool) (i : ℕ) : Type 0 where
+  pub parts : Apart n spots ds
+  pub same : (m : Mine) → across tickOne (n - i) i (soFar g n px py spots ds b m) ≡ R m
 
-pub begins : (g : List ℕ) (n px py : ℕ) (xs ys ds : List ℕ) → Apart xs ys ds → allOnMap (joined xs ys ds) ≡ true → Between g n px py (λ m. enemiesMoved (standing m g (joined xs ys ds) n px py)) xs ys ds false 0
+pub begins : (g : List ℕ) (n px py : ℕ) (spots ds : List ℕ) → Apart n spots ds → Between g n px py (λ m. enemiesMoved (standing m g (joined n spots ds) n px py)) spots ds false 0
 unfolding enemiesMoved
-begins g n px py xs ys ds a p =
+begins g n px py spots ds a =
     let q : n - 0 ≡ n = omega arith in
-    record { parts = a; placed = p; same = λ m. ap (λ (k : ℕ). across tickOne k 0 (standing m g (joined xs ys ds) n px py)) q }
+    record { parts = a; same = λ m. ap (λ (k : ℕ). across tickOne k 0 (standing m g (joined n spots ds) n px py)) q }
 
-module _ {g : List ℕ} {n px py : ℕ} {R : Mine → Mine} {xs ys ds : List ℕ} {b : Bool} (i : ℕ) (d : Between g n px py R xs ys ds b i) where
+module _ {g : List ℕ} {n px py : ℕ} {R : Mine → Mine} {spots ds : List ℕ} {b : Bool} (i : ℕ) (d : Between g n px py R spots ds b i) where
   abbrev pub state : Mine → Mine
-  state m = soFar g n px py xs ys ds b m
+  state m = soFar g n px py spots ds b m
 
   pub ends : n ≤ i → (m : Mine) → R m ≡ state m
   ends h m = sym (across-end tickOne n i (state m) h (d .same m))
 
   -- the creature whose turn it is
   abbrev pub here : Enemy
-  here = record { x = getD xs i 0; y = getD ys i 0; dir = getD ds i 0 }
+  here = creature (getD spots i 0) (getD ds i 0)
 
-  long : length ys ≡ length xs
-  long = d .parts .down ∙ sym (d .parts .across)
-
-  wide : length ds ≡ length xs
-  wide = d .parts .ways ∙ sym (d .parts .across)
-
-  pub here-on-map : onMap here ≡ true
-  here-on-map = subst (λ (e : Enemy). onMap e ≡ true) (joined-at xs ys ds i long wide) (slot-on-map (joined xs ys ds) i (d .placed))
-
-  turn : (m : Mine) → tickOne (state m) i ≡ creatureStepped (state m) i (chosen (state m) here turns)
-  unfolding tickOne
-  turn m = ap (λ (e : Enemy). creatureStepped (state m) i (chosen (state m) e turns)) (joined-at xs ys ds i long wide)
+  wide : length ds ≡ length spots
+  wide = d .parts .ways ∙ sym (d .parts .slots)
 
   module _ (h : i < n) where
-    pub stays : ((m : Mine) → chosen (state m) here turns ≡ Stays) → Between g n px py R xs ys ds b (i + 1)
+    this : getD (joined n spots ds) i blankSlot ≡ here
+    this = joined-at n spots ds i wide h (omega (arith, d .parts .few, d .parts .slots))
+
+    pub here-on-map : onMap here ≡ true
+    here-on-map = subst (λ (e : Enemy). onMap e ≡ true) this (slot-on-map (joined n spots ds) i (d .parts .spotted .placed))
+
+    turn : (m : Mine) → tickOne (state m) i ≡ creatureStepped (state m) i (chosen (state m) here turns)
+    unfolding tickOne
+    turn m = ap (λ (e : Enemy). creatureStepped (state m) i (chosen (state m) e turns)) this
+
+    pub stays : ((m : Mine) → chosen (state m) here turns ≡ Stays) → Between g n px py R spots ds b (i + 1)
     stays q =
-        record { parts = d .parts; placed = d .placed; same = λ m. across-turn tickOne n i (state m) (state m) h (turn m ∙ ap (creatureStepped (state m) i) (q m)) (d .same m) }
+        record { parts = d .parts; same = λ m. across-turn tickOne n i (state m) (state m) h (turn m ∙ ap (creatureStepped (state m) i) (q m)) (d .same m) }
 
     module _ (to : Enemy) (q : (m : Mine) → chosen (state m) here turns ≡ Goes to) where
-      laid : Apart (set xs i (to .x)) (set ys i (to .y)) (set ds i (to .dir))
-      laid = record { across = simp length-set (d .parts .across); down = simp length-set (d .parts .down); ways = simp length-set (d .parts .ways) }
+      pub goes-on : onMap to ≡ true
+      goes-on = chosen-on-map (state nothing) here to here-on-map (q nothing)
 
-      kept : allOnMap (joined (set xs i (to .x)) (set ys i (to .y)) (set ds i (to .dir))) ≡ true
+      together : joined n (set spots i (spotOf to)) (set ds i (to .dir)) ≡ set (joined n spots ds) i to
+      together = joined-set n spots ds i (spotOf to) (to .dir) wide h ∙ ap (set (joined n spots ds) i) (creature-at to (map-inside to goes-on .0))
+
+      kept : Spotted (set (joined n spots ds) i to) n (set spots i (spotOf to))
       kept =
-          rw (joined-set xs ys ds i to long wide)
-          (all-set onMap (joined xs ys ds) i to (d .placed) (chosen-on-map (state nothing) here to here-on-map (q nothing)))
+          record {
+            placed = all-set onMap (joined n spots ds) i to (d .parts .spotted .placed) goes-on;
+            them = ap (λ (l : List ℕ). set l i (spotOf to)) (d .parts .spotted .them) ∙ sym (spots-set n (joined n spots ds) i to h);
+          }
 
-      moved : (m : Mine) (c : Bool) → withCreature (soFar g n px py xs ys ds c m) i to ≡ soFar g n px py (set xs i (to .x)) (set ys i (to .y)) (set ds i (to .dir)) c m
-      moved m c = ap (λ (es : List Enemy). deadIf c (standing m g es n px py)) (sym (joined-set xs ys ds i to long wide))
+      laid : Apart n (set spots i (spotOf to)) (set ds i (to .dir))
+      laid =
+          record {
+            slots = simp length-set (d .parts .slots);
+            ways = simp length-set (d .parts .ways);
+            few = d .parts .few;
+            spotted = subst (λ (es : List Enemy). Spotted es n (set spots i (spotOf to))) (sym together) kept;
+          }
 
-      pub walks : (eqb px (to .x) && eqb py (to .y)) ≡ false → Between g n px py R (set xs i (to .x)) (set ys i (to .y)) (set ds i (to .dir)) b (i + 1)
+      moved : (m : Mine) (c : Bool) → withCreature (soFar g n px py spots ds c m) i to ≡ soFar g n px py (set spots i (spotOf to)) (set ds i (to .dir)) c m
+      moved m c = ap (λ (es : List Enemy). deadIf c (standing m g es n px py)) (sym together)
+
+      pub walks : (eqb px (to .x) && eqb py (to .y)) ≡ false → Between g n px py R (set spots i (spotOf to)) (set ds i (to .dir)) b (i + 1)
       walks p =
           record {
             parts = laid;
-            placed = kept;
             same = λ m. across-turn tickOne n i (state m) _ h (turn m ∙ ap (creatureStepped (state m) i) (q m) ∙ simp p (moved m b)) (d .same m);
           }
 
-      pub catches : (eqb px (to .x) && eqb py (to .y)) ≡ true → Between g n px py R (set xs i (to .x)) (set ys i (to .y)) (set ds i (to .dir)) true (i + 1)
+      pub catches : (eqb px (to .x) && eqb py (to .y)) ≡ true → Between g n px py R (set spots i (spotOf to)) (set ds i (to .dir)) true (i + 1)
       catches p =
           record {
             parts = laid;
-            placed = kept;
             same = λ m. across-turn tickOne n i (state m) _ h (turn m ∙ ap (creatureStepped (state m) i) (q m) ∙ simp p (moved m true)) (d .same m);
           }

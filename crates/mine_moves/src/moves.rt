@@ -1,4 +1,4 @@
-// The player's move: in place, on the lent grid and the creatures taken apart, and on a state.
+// The player's move: in place, on the lent grid and the creatures' places, and on a state.
 //
 // What a move does is told as numbers, and every move changes the grid by the same stores.
 use crate::ways::next_cell;
@@ -7,9 +7,7 @@ use controls::RIGHT;
 use found::Found;
 use mine_apart::enemy_at;
 use mine_apart::free;
-use mine_apart::slot_at;
-use mine_apart::xs_of;
-use mine_apart::ys_of;
+use mine_apart::parts_of;
 use mine_rules::Ahead;
 use mine_state::AREA;
 use mine_state::BOULDER;
@@ -38,14 +36,9 @@ pub struct Player {
     pub won: bool,
 }
 
-// The player's part of a state, and one cell with its code. The player's own cell is empty besides.
+// The player after a move, and one cell with its code. The player's own cell is empty besides.
 pub struct Move {
-    pub px: usize,
-    pub py: usize,
-    pub coins: u32,
-    pub needed: u32,
-    pub dead: bool,
-    pub won: bool,
+    pub player: Player,
     pub at: usize,
     pub code: u8,
 }
@@ -55,24 +48,15 @@ fn go(s: Move, x: usize, y: usize) -> Move
     ensures { λ r. ⌜ r ≡ gone s x y ⌝ }
 {
     let mut to = s;
-    to.px = x;
-    to.py = y;
+    to.player.px = x;
+    to.player.py = y;
     to
 }
 
-// Only a horizontal shove, and only into a free cell beyond. `s` is what staying is.
-fn push(
-    grid: &[u8; AREA],
-    xs: &[usize; MAX_ENEMIES],
-    ys: &[usize; MAX_ENEMIES],
-    count: usize,
-    s: Move,
-    dir: u8,
-    x: usize,
-    y: usize,
-) -> Move
-    requires { ⌜ Meets (now grid) (now xs) (now ys) count s x y ⌝ }
-    ensures { λ r. ⌜ Makes (now (grid .entry)) (now (xs .entry)) (now (ys .entry)) count s r (λ m. pushed m dir x y) × Inside r ⌝ }
+// Only a horizontal shove, and only into a free cell beyond. `s` is what staying is, so its cell is the player's.
+fn push(grid: &[u8; AREA], spots: &[u16; MAX_ENEMIES], s: Move, dir: u8, x: usize, y: usize) -> Move
+    requires { ⌜ Meets (now grid) (now spots) s x y ⌝ }
+    ensures { λ r. ⌜ Makes (now (grid .entry)) (now (spots .entry)) s r (λ m. pushed m dir x y) × Inside r ⌝ }
 {
     let sideways = (dir == RIGHT) | (dir == LEFT);
     if !sideways {
@@ -81,7 +65,7 @@ fn push(
     let Ahead::Cell(bx, by) = next_cell(dir, x, y) else {
         return s;
     };
-    if !free(grid, xs, ys, count, s.px, s.py, bx, by) {
+    if !free(grid, spots, s.at, bx, by) {
         return s;
     }
     let mut to = go(s, x, y);
@@ -91,26 +75,17 @@ fn push(
 }
 
 // What the player meets at (x, y): dug, collected, pushed, or left as it is.
-fn meet(
-    grid: &[u8; AREA],
-    xs: &[usize; MAX_ENEMIES],
-    ys: &[usize; MAX_ENEMIES],
-    count: usize,
-    s: Move,
-    dir: u8,
-    x: usize,
-    y: usize,
-) -> Move
-    requires { ⌜ Meets (now grid) (now xs) (now ys) count s x y ⌝ }
-    ensures { λ r. ⌜ Makes (now (grid .entry)) (now (xs .entry)) (now (ys .entry)) count s r (λ m. met m dir x y) × Inside r ⌝ }
+fn meet(grid: &[u8; AREA], spots: &[u16; MAX_ENEMIES], s: Move, dir: u8, x: usize, y: usize) -> Move
+    requires { ⌜ Meets (now grid) (now spots) s x y ⌝ }
+    ensures { λ r. ⌜ Makes (now (grid .entry)) (now (spots .entry)) s r (λ m. met m dir x y) × Inside r ⌝ }
 {
     let t = at(grid, x, y);
     match t {
         WALL => s,
         EXIT => {
-            if s.needed <= s.coins {
+            if s.player.needed <= s.player.coins {
                 let mut to = s;
-                to.won = true;
+                to.player.won = true;
                 return to;
             }
             s
@@ -119,73 +94,48 @@ fn meet(
         EMPTY => go(s, x, y),
         COIN => {
             let mut to = go(s, x, y);
-            to.coins = s.coins + 1;
+            let coins = s.player.coins + 1;
+            to.player.coins = coins;
             to
         }
-        BOULDER => push(grid, xs, ys, count, s, dir, x, y),
+        BOULDER => push(grid, spots, s, dir, x, y),
         _ => s,
     }
 }
 
 // Off the grid, nothing; a creature there kills.
-fn decide(
-    grid: &[u8; AREA],
-    xs: &[usize; MAX_ENEMIES],
-    ys: &[usize; MAX_ENEMIES],
-    count: usize,
-    s: Move,
-    dir: u8,
-) -> Move
-    requires { ⌜ Lends (now grid) (now xs) (now ys) count s ⌝ }
-    ensures { λ r. ⌜ Makes (now (grid .entry)) (now (xs .entry)) (now (ys .entry)) count s r (λ m. moved m dir) × Inside r ⌝ }
+fn decide(grid: &[u8; AREA], spots: &[u16; MAX_ENEMIES], s: Move, dir: u8) -> Move
+    requires { ⌜ Lends (now grid) (now spots) s ⌝ }
+    ensures { λ r. ⌜ Makes (now (grid .entry)) (now (spots .entry)) s r (λ m. moved m dir) × Inside r ⌝ }
 {
-    let Ahead::Cell(x, y) = next_cell(dir, s.px, s.py) else {
+    let Ahead::Cell(x, y) = next_cell(dir, s.player.px, s.player.py) else {
         return s;
     };
-    let slot = slot_at(xs, ys, count, x, y);
-    if let Found::At(_, _) = enemy_at(xs, ys, slot, count, x, y) {
+    if let Found::At(_, _) = enemy_at(spots, y * W + x) {
         let mut to = s;
-        to.dead = true;
+        to.player.dead = true;
         return to;
     }
-    meet(grid, xs, ys, count, s, dir, x, y)
+    meet(grid, spots, s, dir, x, y)
 }
 
 // Move the player by one step, in place, digging, collecting, or pushing as the target allows.
-pub fn step_on(
-    grid: &mut [u8; AREA],
-    xs: &[usize; MAX_ENEMIES],
-    ys: &[usize; MAX_ENEMIES],
-    count: usize,
-    p: Player,
-    dir: u8,
-) -> Player
-    requires { ⌜ Stands (now grid) (now xs) (now ys) count p ⌝ }
-    ensures { λ r. ⌜ Steps (now (grid .entry)) (now (xs .entry)) (now (ys .entry)) count p dir (now (grid .exit)) r ⌝ }
+pub fn step_on(grid: &mut [u8; AREA], spots: &[u16; MAX_ENEMIES], p: Player, dir: u8) -> Player
+    requires { ⌜ Stands (now grid) (now spots) p ⌝ }
+    ensures { λ r. ⌜ Steps (now (grid .entry)) (now (spots .entry)) p dir (now (grid .exit)) r ⌝ }
 {
     let s = Move {
-        px: p.px,
-        py: p.py,
-        coins: p.coins,
-        needed: p.needed,
-        dead: p.dead,
-        won: p.won,
+        player: p,
         at: p.py * W + p.px,
         code: EMPTY,
     };
-    let to = decide(grid, xs, ys, count, s, dir);
+    let to = decide(grid, spots, s, dir);
+    let q = to.player;
     let cell = to.at;
-    let home = to.py * W + to.px;
+    let home = q.py * W + q.px;
     grid[cell] = to.code;
     grid[home] = EMPTY;
-    Player {
-        px: to.px,
-        py: to.py,
-        coins: to.coins,
-        needed: p.needed,
-        dead: to.dead,
-        won: to.won,
-    }
+    q
 }
 
 // Move the player by one step.
@@ -194,8 +144,8 @@ pub fn step_player(m: Mine, dir: u8) -> Mine
     ensures { λ r. ⌜ r ≡ moved m dir ⌝ }
 {
     let enemies = m.enemies;
-    let xs = xs_of(enemies);
-    let ys = ys_of(enemies);
+    let parts = parts_of(enemies, m.count);
+    let spots = parts.spots;
     let p = Player {
         px: m.px,
         py: m.py,
@@ -205,7 +155,7 @@ pub fn step_player(m: Mine, dir: u8) -> Mine
         won: m.won,
     };
     let mut next = m;
-    let to = step_on(&mut next.grid, &xs, &ys, m.count, p, dir);
+    let to = step_on(&mut next.grid, &spots, p, dir);
     next.px = to.px;
     next.py = to.py;
     next.coins = to.coins;

@@ -1,12 +1,9 @@
 // The creatures' tick: in place, on the lent grid and the creatures taken apart, and on a state.
 use crate::ways::next_cell;
 use found::Found;
-use mine_apart::dirs_of;
 use mine_apart::enemies_of;
 use mine_apart::enemy_at;
-use mine_apart::slot_at;
-use mine_apart::xs_of;
-use mine_apart::ys_of;
+use mine_apart::parts_of;
 use mine_rules::Ahead;
 use mine_rules::Step;
 use mine_state::AREA;
@@ -14,6 +11,7 @@ use mine_state::EMPTY;
 use mine_state::Enemy;
 use mine_state::MAX_ENEMIES;
 use mine_state::Mine;
+use mine_state::W;
 use mine_state::at;
 ghost use mathlib.Core.Path.{_≡_};
 ghost use Rattle.mine_state.specs.WellFormed.{WellFormed};
@@ -24,16 +22,9 @@ ghost use Rattle.mine_moves.specs.CodeSteps.{Walks, Walkers, Tells, Tick
 const TURNS: [u8; 4] = [3, 0, 1, 2];
 
 // Creatures travel only through open tunnels, never through anyone else.
-fn way(
-    grid: &[u8; AREA],
-    xs: &[usize; MAX_ENEMIES],
-    ys: &[usize; MAX_ENEMIES],
-    count: usize,
-    e: Enemy,
-    dir: u8,
-) -> Step
-    requires { ⌜ Walks (now grid) (now xs) (now ys) count e ⌝ }
-    ensures { λ r. ⌜ Tells (now (grid .entry)) (now (xs .entry)) (now (ys .entry)) count r (λ m. wayOf m e dir) ⌝ }
+fn way(grid: &[u8; AREA], spots: &[u16; MAX_ENEMIES], e: Enemy, dir: u8) -> Step
+    requires { ⌜ Walks (now grid) (now spots) e ⌝ }
+    ensures { λ r. ⌜ Tells (now (grid .entry)) (now (spots .entry)) r (λ m. wayOf m e dir) ⌝ }
 {
     let Ahead::Cell(nx, ny) = next_cell(dir, e.x, e.y) else {
         return Step::Stays;
@@ -41,8 +32,7 @@ fn way(
     if at(grid, nx, ny) != EMPTY {
         return Step::Stays;
     }
-    let slot = slot_at(xs, ys, count, nx, ny);
-    if let Found::At(_, _) = enemy_at(xs, ys, slot, count, nx, ny) {
+    if let Found::At(_, _) = enemy_at(spots, ny * W + nx) {
         return Step::Stays;
     }
     Step::Goes(Enemy {
@@ -53,21 +43,15 @@ fn way(
 }
 
 // Prefer turning left, then straight, then right, then back.
-fn choose(
-    grid: &[u8; AREA],
-    xs: &[usize; MAX_ENEMIES],
-    ys: &[usize; MAX_ENEMIES],
-    count: usize,
-    e: Enemy,
-) -> Step
-    requires { ⌜ Walks (now grid) (now xs) (now ys) count e ⌝ }
-    ensures { λ r. ⌜ Tells (now (grid .entry)) (now (xs .entry)) (now (ys .entry)) count r (λ m. chosen m e turns) ⌝ }
+fn choose(grid: &[u8; AREA], spots: &[u16; MAX_ENEMIES], e: Enemy) -> Step
+    requires { ⌜ Walks (now grid) (now spots) e ⌝ }
+    ensures { λ r. ⌜ Tells (now (grid .entry)) (now (spots .entry)) r (λ m. chosen m e turns) ⌝ }
 {
     let mut i: usize = 0;
     while i < 4 {
         let turn = TURNS[i];
         let dir = (e.dir + turn) % 4;
-        if let Step::Goes(to) = way(grid, xs, ys, count, e, dir) {
+        if let Step::Goes(to) = way(grid, spots, e, dir) {
             return Step::Goes(to);
         }
         i += 1;
@@ -79,29 +63,29 @@ fn choose(
 // whether one did.
 pub fn tick_on(
     grid: &[u8; AREA],
-    xs: &mut [usize; MAX_ENEMIES],
-    ys: &mut [usize; MAX_ENEMIES],
+    spots: &mut [u16; MAX_ENEMIES],
     dirs: &mut [u8; MAX_ENEMIES],
     count: usize,
     px: usize,
     py: usize,
 ) -> bool
-    requires { ⌜ Walkers (now grid) (now xs) (now ys) (now dirs) count ⌝ }
-    ensures { λ r. ⌜ Ticked enemiesMoved (now (grid .entry)) count px py (now (xs .entry)) (now (ys .entry)) (now (dirs .entry)) r (now (xs .exit)) (now (ys .exit)) (now (dirs .exit)) ⌝ }
+    requires { ⌜ Walkers (now grid) (now spots) (now dirs) count ⌝ }
+    ensures { λ r. ⌜ Ticked enemiesMoved (now (grid .entry)) count px py (now (spots .entry)) (now (dirs .entry)) r (now (spots .exit)) (now (dirs .exit)) ⌝ }
 {
     let mut caught = false;
     let mut i: usize = 0;
     while i < count {
         let k = i;
+        let from = spots[k] as usize;
         let e = Enemy {
-            x: xs[k],
-            y: ys[k],
+            x: from % W,
+            y: from / W,
             dir: dirs[k],
         };
         i += 1;
-        if let Step::Goes(to) = choose(grid, xs, ys, count, e) {
-            xs[k] = to.x;
-            ys[k] = to.y;
+        if let Step::Goes(to) = choose(grid, spots, e) {
+            let place = to.y * W + to.x;
+            spots[k] = place as u16;
             dirs[k] = to.dir;
             if (px == to.x) & (py == to.y) {
                 caught = true;
@@ -118,11 +102,11 @@ pub fn move_enemies(m: Mine) -> Mine
 {
     let grid = m.grid;
     let old = m.enemies;
-    let mut xs = xs_of(old);
-    let mut ys = ys_of(old);
-    let mut dirs = dirs_of(old);
-    let caught = tick_on(&grid, &mut xs, &mut ys, &mut dirs, m.count, m.px, m.py);
-    let enemies = enemies_of(&xs, &ys, &dirs);
+    let parts = parts_of(old, m.count);
+    let mut spots = parts.spots;
+    let mut dirs = parts.dirs;
+    let caught = tick_on(&grid, &mut spots, &mut dirs, m.count, m.px, m.py);
+    let enemies = enemies_of(&spots, &dirs, m.count);
     let mut next = m;
     next.enemies = enemies;
     next.dead = caught | m.dead;

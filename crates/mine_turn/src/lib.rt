@@ -1,18 +1,7 @@
 // One turn of Block Mine's loop: what is left of it when keys, clock and record are numbers.
 use answer::Answer;
-use controls::DOWN;
-use controls::KEY_DOWN;
-use controls::KEY_LEFT;
-use controls::KEY_QUIT;
-use controls::KEY_RIGHT;
-use controls::KEY_UP;
-use controls::LEFT;
-use controls::RIGHT;
-use controls::UP;
-use mine_apart::dirs_of;
 use mine_apart::enemies_of;
-use mine_apart::xs_of;
-use mine_apart::ys_of;
+use mine_apart::parts_of;
 use mine_check::check;
 use mine_fall::Fallen;
 use mine_fall::gravity_on;
@@ -21,8 +10,17 @@ use mine_moves::step_on;
 use mine_moves::tick_on;
 use mine_pass::ENEMY_CYCLES;
 use mine_pass::GRAVITY_CYCLES;
+use controls::KEY_DOWN;
+use controls::KEY_LEFT;
+use controls::KEY_QUIT;
+use controls::KEY_RIGHT;
+use controls::KEY_UP;
 use mine_pass::MinePassed;
 use mine_pass::MineTurn;
+use controls::DOWN;
+use controls::LEFT;
+use controls::RIGHT;
+use controls::UP;
 use mine_state::AREA;
 use mine_state::MAX_ENEMIES;
 use mine_state::Mine;
@@ -59,34 +57,20 @@ fn dir_of(key: u8) -> u8
     }
 }
 
-fn press(
-    grid: &mut [u8; AREA],
-    xs: &[usize; MAX_ENEMIES],
-    ys: &[usize; MAX_ENEMIES],
-    count: usize,
-    p: Player,
-    key: u8,
-) -> Player
-    requires { ⌜ Ready (now grid) (now xs) (now ys) count p ⌝ }
-    ensures { λ r. ⌜ Keyed (now (grid .entry)) (now (xs .entry)) (now (ys .entry)) count p key (now (grid .exit)) r ⌝ }
+fn press(grid: &mut [u8; AREA], spots: &[u16; MAX_ENEMIES], p: Player, key: u8) -> Player
+    requires { ⌜ Ready (now grid) (now spots) p ⌝ }
+    ensures { λ r. ⌜ Keyed (now (grid .entry)) (now (spots .entry)) p key (now (grid .exit)) r ⌝ }
 {
     let dir = dir_of(key);
     if dir < NOWHERE {
-        return step_on(grid, xs, ys, count, p, dir);
+        return step_on(grid, spots, p, dir);
     }
     p
 }
 
-fn play(
-    grid: &mut [u8; AREA],
-    xs: &[usize; MAX_ENEMIES],
-    ys: &[usize; MAX_ENEMIES],
-    count: usize,
-    p: Player,
-    keys: &[u8],
-) -> Pressed
-    requires { ⌜ Ready (now grid) (now xs) (now ys) count p ⌝ }
-    ensures { λ r. ⌜ Plays (now (grid .entry)) (now (xs .entry)) (now (ys .entry)) count p (now (keys .entry)) (now (grid .exit)) r ⌝ }
+fn play(grid: &mut [u8; AREA], spots: &[u16; MAX_ENEMIES], p: Player, keys: &[u8]) -> Pressed
+    requires { ⌜ Ready (now grid) (now spots) p ⌝ }
+    ensures { λ r. ⌜ Plays (now (grid .entry)) (now (spots .entry)) p (now (keys .entry)) (now (grid .exit)) r ⌝ }
 {
     let mut to = p;
     let mut i: usize = 0;
@@ -98,7 +82,7 @@ fn play(
                 player: to,
             };
         }
-        to = press(grid, xs, ys, count, to, key);
+        to = press(grid, spots, to, key);
         i += 1;
     }
     Pressed {
@@ -111,18 +95,17 @@ fn gravity_if(
     due: bool,
     grid: &mut [u8; AREA],
     falling: &mut [bool; AREA],
-    xs: &mut [usize; MAX_ENEMIES],
-    ys: &mut [usize; MAX_ENEMIES],
+    spots: &mut [u16; MAX_ENEMIES],
     dirs: &mut [u8; MAX_ENEMIES],
     s: Fallen,
     px: usize,
     py: usize,
 ) -> Fallen
-    requires { ⌜ Falling (now grid) (now falling) (now xs) (now ys) (now dirs) s px py ⌝ }
-    ensures { λ r. ⌜ Dropped (λ m. cond due (gravityOf m) m) px py (now (grid .entry)) (now (falling .entry)) (now (xs .entry)) (now (ys .entry)) (now (dirs .entry)) s (now (grid .exit)) (now (falling .exit)) (now (xs .exit)) (now (ys .exit)) (now (dirs .exit)) r ⌝ }
+    requires { ⌜ Falling (now grid) (now falling) (now spots) (now dirs) s px py ⌝ }
+    ensures { λ r. ⌜ Dropped (λ m. cond due (gravityOf m) m) px py (now (grid .entry)) (now (falling .entry)) (now (spots .entry)) (now (dirs .entry)) s (now (grid .exit)) (now (falling .exit)) (now (spots .exit)) (now (dirs .exit)) r ⌝ }
 {
     if due {
-        return gravity_on(grid, falling, xs, ys, dirs, s, px, py);
+        return gravity_on(grid, falling, spots, dirs, s, px, py);
     }
     s
 }
@@ -130,18 +113,17 @@ fn gravity_if(
 fn enemies_if(
     due: bool,
     grid: &[u8; AREA],
-    xs: &mut [usize; MAX_ENEMIES],
-    ys: &mut [usize; MAX_ENEMIES],
+    spots: &mut [u16; MAX_ENEMIES],
     dirs: &mut [u8; MAX_ENEMIES],
     count: usize,
     px: usize,
     py: usize,
 ) -> bool
-    requires { ⌜ Walkers (now grid) (now xs) (now ys) (now dirs) count ⌝ }
-    ensures { λ r. ⌜ Ticked (λ m. cond due (enemiesMoved m) m) (now (grid .entry)) count px py (now (xs .entry)) (now (ys .entry)) (now (dirs .entry)) r (now (xs .exit)) (now (ys .exit)) (now (dirs .exit)) ⌝ }
+    requires { ⌜ Walkers (now grid) (now spots) (now dirs) count ⌝ }
+    ensures { λ r. ⌜ Ticked (λ m. cond due (enemiesMoved m) m) (now (grid .entry)) count px py (now (spots .entry)) (now (dirs .entry)) r (now (spots .exit)) (now (dirs .exit)) ⌝ }
 {
     if due {
-        return tick_on(grid, xs, ys, dirs, count, px, py);
+        return tick_on(grid, spots, dirs, count, px, py);
     }
     false
 }
@@ -161,17 +143,16 @@ fn turn(first: u32, second: u32, refusal: Refusal, answer: Answer, game: Mine) -
     }
 }
 
-// The keys, and then what is due. The state is taken apart once, and put together once.
+// The keys, and then what is due. One variable holds the state to the end; where nothing is due, its creatures are as they were.
 fn go_on(m: Mine, keys: &[u8], time: u32, first: u32, second: u32) -> MineTurn
     requires { ⌜ WellFormed m ⌝ }
     ensures { λ r. ⌜ r ≡ afterKeys first second time (played m (now (keys .entry))) ⌝ }
 {
-    let mut grid = m.grid;
-    let mut falling = m.falling;
+    let mut game = m;
     let old = m.enemies;
-    let mut xs = xs_of(old);
-    let mut ys = ys_of(old);
-    let mut dirs = dirs_of(old);
+    let parts = parts_of(old, m.count);
+    let mut spots = parts.spots;
+    let mut dirs = parts.dirs;
     let p = Player {
         px: m.px,
         py: m.py,
@@ -180,24 +161,22 @@ fn go_on(m: Mine, keys: &[u8], time: u32, first: u32, second: u32) -> MineTurn
         dead: m.dead,
         won: m.won,
     };
-    let pressed = play(&mut grid, &xs, &ys, m.count, p, keys);
+    let pressed = play(&mut game.grid, &spots, p, keys);
     let q = pressed.player;
+    game.px = q.px;
+    game.py = q.py;
+    game.coins = q.coins;
+    game.needed = q.needed;
+    game.dead = q.dead;
+    game.won = q.won;
     if pressed.quit {
-        let game = Mine {
-            grid: grid,
-            falling: falling,
-            px: q.px,
-            py: q.py,
-            enemies: old,
-            count: m.count,
-            coins: q.coins,
-            needed: q.needed,
-            dead: q.dead,
-            won: q.won,
-        };
         return turn(first, second, refusal::NONE, Answer::Quit, game);
     }
     let due = both_ticks(time, first, second, GRAVITY_CYCLES, ENEMY_CYCLES);
+    if !(due.one | due.two) {
+        return turn(first, second, refusal::NONE, Answer::GoingOn, game);
+    }
+    let mut falling = m.falling;
     let s = Fallen {
         count: m.count,
         coins: q.coins,
@@ -205,10 +184,9 @@ fn go_on(m: Mine, keys: &[u8], time: u32, first: u32, second: u32) -> MineTurn
     };
     let f = gravity_if(
         due.one,
-        &mut grid,
+        &mut game.grid,
         &mut falling,
-        &mut xs,
-        &mut ys,
+        &mut spots,
         &mut dirs,
         s,
         q.px,
@@ -216,27 +194,19 @@ fn go_on(m: Mine, keys: &[u8], time: u32, first: u32, second: u32) -> MineTurn
     );
     let caught = enemies_if(
         due.two,
-        &grid,
-        &mut xs,
-        &mut ys,
+        &game.grid,
+        &mut spots,
         &mut dirs,
         f.count,
         q.px,
         q.py,
     );
-    let enemies = enemies_of(&xs, &ys, &dirs);
-    let game = Mine {
-        grid: grid,
-        falling: falling,
-        px: q.px,
-        py: q.py,
-        enemies: enemies,
-        count: f.count,
-        coins: f.coins,
-        needed: q.needed,
-        dead: caught | f.dead,
-        won: q.won,
-    };
+    let enemies = enemies_of(&spots, &dirs, f.count);
+    game.falling = falling;
+    game.enemies = enemies;
+    game.count = f.count;
+    game.coins = f.coins;
+    game.dead = caught | f.dead;
     turn(due.first, due.second, refusal::NONE, Answer::GoingOn, game)
 }
 

@@ -1,17 +1,22 @@
-use mathlib.Core.Path.{sym, _∙_}
+use mathlib.Core.Bool.{not}
+use mathlib.Core.Path.{sym, _∙_, ap}
+use native.Mathlib.Omega.{arith}
 use borrow.Author.Needs.{needs}
 use borrow.Author.Tests.{eq-eqb, ne-eqb, lt-ltb, le-ltb}
-use Rattle.mine_state.specs.State.{emptyAt, freeAt}
+use Rattle.found.proofs.First.{nobody-any}
+use Rattle.mine_state.specs.State.{place, emptyAt}
+use Rattle.mine_apart.specs.CodeApart.{isSpot, freeSpot}
+use borrow.Author.Needs.{needs}
 use Rattle.mine_apart.proofs.free.Statement.{statement}
 use Rattle.mine_apart.proofs.free.Tie as tie
 
 returns : tie.Need-returns
-unfolding freeAt emptyAt
-returns c = λ m ds l. simp (le-ltb _ _ (c .if1 .taken))
+unfolding freeSpot emptyAt
+returns c = simp (le-ltb _ _ (c .if1 .taken))
 
 returns-2 : tie.Need-returns-2
-unfolding freeAt emptyAt
-returns-2 c = λ m ds l. simp (lt-ltb _ _ (c .before .if1 .left), le-ltb _ _ (c .if2 .taken))
+unfolding freeSpot emptyAt
+returns-2 c = simp (lt-ltb _ _ (c .before .if1 .left), le-ltb _ _ (c .if2 .taken))
 
 mul-at : tie.Need-mul-at
 mul-at c = search needs
@@ -23,54 +28,31 @@ element-copy-out-if3 : tie.Need-element-copy-out-if3
 element-copy-out-if3 c = search needs
 
 returns-3 : tie.Need-returns-3
-unfolding freeAt emptyAt
-returns-3 c = let k = c .before .before in λ m ds l. simp (lt-ltb _ _ (k .before .if1 .left), lt-ltb _ _ (k .if2 .left), ne-eqb _ _ (c .if3 .taken))
+unfolding freeSpot emptyAt
+returns-3 c = let k = c .before .before in simp (lt-ltb _ _ (k .before .if1 .left), lt-ltb _ _ (k .if2 .left), ne-eqb _ _ (c .if3 .taken))
 
 returns-4 : tie.Need-returns-4
-unfolding freeAt emptyAt
+unfolding freeSpot emptyAt
 returns-4 c =
     let k = c .before .before .before in
-    λ m ds l. simp (lt-ltb _ _ (k .before .if1 .left), lt-ltb _ _ (k .if2 .left), eq-eqb _ _ (c .before .if3 .left), c .if4 .taken)
+    simp (lt-ltb _ _ (k .before .if1 .left), lt-ltb _ _ (k .if2 .left), eq-eqb _ _ (c .before .if3 .left), eq-eqb _ _ (c .if4 .taken))
 
-slot-at-requires : tie.Need-slot-at-requires
-slot-at-requires c κs = search needs
+cast-somebody : tie.Need-cast-somebody
+cast-somebody c =
+    let k = c .before .before .before in
+    omega (arith, k .before .if1 .left, k .if2 .left)
 
-enemy-at-requires : tie.Need-enemy-at-requires
-enemy-at-requires c κs = search needs
-
-enum-told : tie.Need-enum-told
-enum-told c = search needs
+somebody-requires : tie.Need-somebody-requires
+somebody-requires c κs = search needs
 
 returns-5 : tie.Need-returns-5
-unfolding freeAt emptyAt
+unfolding freeSpot emptyAt
 returns-5 c =
-    let f = c .before .before in
-    let k = f .before .before .before .before .before in
-    λ m ds l. simp (
-      lt-ltb _ _ (k .before .if1 .left),
-      lt-ltb _ _ (k .if2 .left),
-      eq-eqb _ _ (f .before .before .before .if3 .left),
-      f .before .before .if4 .left,
-      sym
-          (f .enemy-at .ensures ds l) ∙ c .enum-told .given .1,
-    )
-
-enum-told-2 : tie.Need-enum-told-2
-enum-told-2 c = search needs
-
-returns-6 : tie.Need-returns-6
-unfolding freeAt emptyAt
-returns-6 c =
-    let f = c .before .before in
-    let k = f .before .before .before .before .before in
-    λ m ds l. simp (
-      lt-ltb _ _ (k .before .if1 .left),
-      lt-ltb _ _ (k .if2 .left),
-      eq-eqb _ _ (f .before .before .before .if3 .left),
-      f .before .before .if4 .left,
-      sym
-          (f .enemy-at .ensures ds l) ∙ c .enum-told2 .given .1,
-    )
+    let f = c .before in
+    let k = f .before .before .before in
+    let a = k .before .before .args in
+    let n = ap not (c .somebody .ensures) ∙ sym (nobody-any (isSpot (place (a .x) (a .y))) (a .spots .now)) in
+    simp (lt-ltb _ _ (k .before .if1 .left), lt-ltb _ _ (k .if2 .left), eq-eqb _ _ (f .before .if3 .left), ne-eqb _ _ (f .if4 .left)) n
 
 pub free-spec : {M : Type 1} → statement M
 free-spec =
@@ -83,9 +65,6 @@ free-spec =
     element-copy-out-if3
     returns-3
     returns-4
-    slot-at-requires
-    enemy-at-requires
-    enum-told
-    returns-5
-    enum-told-2
-    returns-6)
+    cast-somebody
+    somebody-requires
+    returns-5)

@@ -1,4 +1,4 @@
--- `mine_pass::dir_of` meets its contract. Assumes nothing.
+-- `mine_turn::dir_of` meets its contract. Assumes nothing.
 use borrow.Author.Tests.{ne-eqb}
 use Rattle.mine_turn.proofs.dir_of.Statement.{statement}
 use Rattle.mine_turn.proofs.dir_of.Tie as tie

@@ -1,4 +1,4 @@
--- `mine_pass::pass_at` meets its contract. Assumes nothing.
+-- `mine_turn::pass_at` meets its contract. Assumes nothing.
 use mathlib.Core.Path.{sym, _∙_}
 use borrow.Author.Needs.{needs}
 use Rattle.mine_state.proofs.Facts.{accepted}

@@ -1,4 +1,4 @@
--- `mine_pass::press` meets its contract. Assumes nothing.
+-- `mine_turn::press` meets its contract. Assumes nothing.
 use native.Mathlib.Omega.{arith}
 use borrow.Author.Needs.{needs}
 use Rattle.mine_state.proofs.Facts.{sound}
@@ -12,7 +12,7 @@ step-on-requires c κs =
     let r = c .before .before .before .pre in
     let w = sound _ (r .formed) in
     record {
-      lent = record { cells = w .cells; people = record { across = r .parts .across; down = r .parts .down; few = w .few } };
+      lent = record { cells = w .cells; slots = r .slots };
       home = home w;
       empty = r .formed .player;
       purse = omega (arith, w .coins);
@@ -21,12 +21,12 @@ step-on-requires c κs =
 returns : tie.Need-returns
 returns c =
     let d = c .before .before .before in
-    λ f ds l. key-moves _ (d .before .args .key) (d .«dir-of» .ensures) (c .before .before .if1 .taken) (c .«step-on» .ensures f ds l)
+    λ f es n w. key-moves _ (d .before .args .key) (d .«dir-of» .ensures) (c .before .before .if1 .taken) (c .«step-on» .ensures f es n w)
 
 returns-2 : tie.Need-returns-2
 returns-2 c =
     let d = c .before in
-    λ f ds l. key-stays _ (d .before .args .key) (d .«dir-of» .ensures) (c .if1 .left)
+    λ f es n w. key-stays _ (d .before .args .key) (d .«dir-of» .ensures) (c .if1 .left)
 
 pub press-spec : {M : Type 1} → statement M
 press-spec = tie.close (tie.spec (λ c κs. search needs) step-on-requires returns returns-2)

@@ -3,7 +3,7 @@ use mathlib.Core.Path.{sym, ap, _∙_}
 use borrow.Author.Needs.{needs}
 use Rattle.refusal.proofs.Calls.{turned-away, let-in}
 use Rattle.mine_rules.specs.Gravity.{gravityOf}
-use Rattle.mine_state.proofs.Facts.{accepted, sound}
+use Rattle.mine_state.proofs.Facts.{accepted}
 use Rattle.mine.specs.Calls.{refused, answered, gravityCall}
 use Rattle.mine.proofs.calls.gravity.Statement.{statement}
 use Rattle.mine.proofs.calls.gravity.Tie as tie
@@ -13,7 +13,7 @@ unfolding gravityCall
 returns c = let m = c .before .before .args .m in turned-away (refused m) (answered (gravityOf m)) (c .before .check .ensures) (c .if1 .taken)
 
 gravity-requires : tie.Need-gravity-requires
-gravity-requires c κs = sound _ (accepted _ (sym (c .before .check .ensures) ∙ c .if1 .left))
+gravity-requires c κs = accepted _ (sym (c .before .check .ensures) ∙ c .if1 .left)
 
 returns-2 : tie.Need-returns-2
 unfolding gravityCall

@@ -2,7 +2,7 @@ use mathlib.Core.Path.{refl, sym, _∙_}
 use Prim.Native.Nat.{_+_}
 use native.Mathlib.Omega.{arith}
 use borrow.Author.Needs.{needs}
-use Rattle.mine_fall.proofs.Places.{spot-below}
+use Rattle.mine_apart.proofs.Places.{spot-below}
 use Rattle.mine_rules.specs.Gravity.{overEmpty, overCreature, without, rested}
 use Rattle.mine_fall.proofs.Lent.{on-player, off-player, found}
 use Rattle.mine_fall.proofs.cells.over_empty.Statement.{statement}
@@ -28,7 +28,10 @@ returns c =
     simp (on-player s (a .args .x) (a .args .y + 1) (a .pre .here .cell .across) (c .before .before .before .if1 .taken)) (c .over-player .ensures m)
 
 enemy-at-requires : tie.Need-enemy-at-requires
-enemy-at-requires c κs = search needs
+enemy-at-requires c κs =
+    let a = c .before in
+    let h = a .pre .here .cell in
+    record { slots = a .pre .slots; inside = omega (arith, h .across, h .down) }
 
 enum-known-k : tie.Need-enum-known-k
 enum-known-k c = search needs
@@ -71,7 +74,7 @@ returns-3 c =
     let t = sym (c .before .before .before .before .before .before .before .before .enemy-at .ensures) ∙ c .before .before .before .before .before .before .k .given .1 in
     let p = off-player s (a .args .x) (a .args .y + 1) (h .across) (c .before .before .before .before .before .before .before .before .before .if1 .left) in
     let q = found s (a .args .x) (a .args .y + 1) (h .across) (h .down) t in
-    simp (p, q, c .before .before .before .if2 .taken) (c .move-obj2 .ensures (without m k) .0, spot-below (s .spotted) (a .args .x) (a .args .y + 1) k _ (h .across) (h .down) t)
+    simp (p, q, c .before .before .before .if2 .taken) (c .move-obj2 .ensures (without m k) .0, spot-below m (s .spotted) (a .args .x) (a .args .y + 1) k _ (h .across) (h .down) t)
 
 element-write-falling : tie.Need-element-write-falling
 element-write-falling c = search needs

@@ -7,7 +7,7 @@ use lib.Dec.{ltb}
 use borrow.Author.Needs.{needs}
 use borrow.Author.Tests.{lt-ltb, le-ltb}
 use Rattle.mine_state.specs.declared.Mine.{Mine}
-use Rattle.mine_fall.specs.CodeSpots.{Stand}
+use Rattle.mine_apart.specs.CodeApart.{Stand}
 use Rattle.mine_rules.specs.Gravity.{openSide, rolled}
 use Rattle.mine_fall.specs.CodeFalls.{lent}
 use Rattle.mine_fall.proofs.Lent.{is-open, open-inside}

@@ -15,9 +15,9 @@ at-requires c κs = search needs
 returns : tie.Need-returns
 unfolding met
 returns c =
-    let k = c .before .before in
+    let k = c .before .before .before in
     let a = k .before .before in
-    (λ m p. won-it p ∙ simp (code p (a .args .x) (a .args .y) ∙ sym (k .before .at .ensures) ∙ k .match .keys2, ap (λ (t : Move). leb (t .needed) (t .coins)) (sym (p .stays)) ∙ le-leb _ _ (c .if1 .taken)), record { cell = a .pre .lends .inside .cell; home = a .pre .lends .inside .home })
+    (λ m p. won-it p ∙ simp (code p (a .args .x) (a .args .y) ∙ sym (k .before .at .ensures) ∙ k .match .keys2, ap (λ (t : Move). leb (t .player .needed) (t .player .coins)) (sym (p .stays)) ∙ le-leb _ _ (c .before .if1 .taken)), record { cell = a .pre .lends .inside .cell; home = a .pre .lends .inside .home })
 
 go-requires : tie.Need-go-requires
 go-requires c κs = search needs
@@ -28,8 +28,8 @@ go-requires-2 c κs = search needs
 go-requires-3 : tie.Need-go-requires-3
 go-requires-3 c κs = search needs
 
-add-to : tie.Need-add-to
-add-to c = omega (arith, c .before .before .before .before .pre .lends .purse)
+add-coins : tie.Need-add-coins
+add-coins c = omega (arith, c .before .before .before .before .pre .lends .purse)
 
 push-requires : tie.Need-push-requires
 push-requires c κs = search needs
@@ -45,7 +45,7 @@ unfolding met
 returns-3 c =
     let k = c .before .before in
     let a = k .before .before in
-    (λ m p. stayed p ∙ simp (code p (a .args .x) (a .args .y) ∙ sym (k .before .at .ensures) ∙ k .match .keys2, ap (λ (t : Move). leb (t .needed) (t .coins)) (sym (p .stays)) ∙ lt-leb _ _ (c .if1 .left)), a .pre .lends .inside)
+    (λ m p. stayed p ∙ simp (code p (a .args .x) (a .args .y) ∙ sym (k .before .at .ensures) ∙ k .match .keys2, ap (λ (t : Move). leb (t .player .needed) (t .player .coins)) (sym (p .stays)) ∙ lt-leb _ _ (c .if1 .left)), a .pre .lends .inside)
 
 returns-4 : tie.Need-returns-4
 unfolding met
@@ -66,7 +66,7 @@ returns-5 c =
 returns-6 : tie.Need-returns-6
 unfolding met
 returns-6 c =
-    let g = c .before in
+    let g = c .before .before in
     let k = g .before in
     let a = k .before .before in
     simp (g .go3 .ensures)
@@ -95,7 +95,7 @@ meet-spec =
     go-requires
     go-requires-2
     go-requires-3
-    add-to
+    add-coins
     push-requires
     returns-2
     returns-3

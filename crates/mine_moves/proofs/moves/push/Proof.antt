@@ -57,7 +57,7 @@ returns-3 c =
     let b = f .before .before in
     let n = b .before .before in
     let s = n .before .before in
-    (λ m p. stayed p ∙ simp (not-false (sideways (s .args .dir)) (n .before .if1 .left), sym (n .next-cell .ensures) ∙ b .bx .given .1, freed p (b .bx .given .0 .0) (b .bx .given .0 .1 .0) (f .free .ensures) ∙ not-true (f .free .result) (c .if2 .taken)), s .pre .lends .inside)
+    (λ m p. stayed p ∙ simp (not-false (sideways (s .args .dir)) (n .before .if1 .left), sym (n .next-cell .ensures) ∙ b .bx .given .1, freed p (b .bx .given .0 .0) (b .bx .given .0 .1 .0) ∙ sym (f .free .ensures) ∙ not-true (f .free .result) (c .if2 .taken)), s .pre .lends .inside)
 
 go-requires : tie.Need-go-requires
 go-requires c κs = search needs
@@ -79,7 +79,7 @@ returns-4 c =
     let bx = b .bx .given .0 .0 in
     let by = b .bx .given .0 .1 .0 in
     simp (c .go .ensures)
-    (λ m p. shoved p (s .args .x) (s .args .y) bx by ∙ simp (not-false (sideways (s .args .dir)) (n .before .if1 .left), sym (n .next-cell .ensures) ∙ b .bx .given .1, freed p bx by (f .free .ensures) ∙ not-false (f .free .result) (c .before .if2 .left)), record { cell = omega (arith, o .across, o .down); home = s .pre .there })
+    (λ m p. shoved p (s .args .x) (s .args .y) bx by ∙ simp (not-false (sideways (s .args .dir)) (n .before .if1 .left), sym (n .next-cell .ensures) ∙ b .bx .given .1, freed p bx by ∙ sym (f .free .ensures) ∙ not-false (f .free .result) (c .before .if2 .left)), record { cell = omega (arith, o .across, o .down); home = s .pre .there })
 
 pub push-spec : {M : Type 1} → statement M
 push-spec =

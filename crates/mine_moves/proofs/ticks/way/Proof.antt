@@ -1,4 +1,5 @@
 use mathlib.Core.Path.{sym, _∙_}
+use native.Mathlib.Omega.{arith}
 use borrow.Author.Needs.{needs}
 use Rattle.mine_state.proofs.Creatures.{map-inside}
 use Rattle.mine_rules.specs.Tick.{wayOf}
@@ -10,7 +11,6 @@ use Rattle.mine_moves.proofs.ticks.way.Reads as reads
 use Rattle.mine_moves.proofs.ticks.way.Lts as lts
 use Rattle.mine_moves.proofs.ways.next_cell.Reads as next-cell-reads
 use Rattle.mine_state.proofs.at.Reads as at-reads
-use Rattle.mine_apart.proofs.slot_at.Reads as slot-at-reads
 use Rattle.mine_apart.proofs.enemy_at.Reads as enemy-at-reads
 use Rattle.mine_rules.specs.CodeWays.{OnGrid}
 
@@ -18,7 +18,7 @@ use Rattle.mine_rules.specs.CodeWays.{OnGrid}
 abbrev Ahead : Type 0
 Ahead =
     lts.After-nx
-    (next-cell-reads.Asked, next-cell-reads.Learnt, at-reads.Asked, at-reads.Learnt, slot-at-reads.Asked, slot-at-reads.Learnt, enemy-at-reads.Asked, enemy-at-reads.Learnt)
+    (next-cell-reads.Asked, next-cell-reads.Learnt, at-reads.Asked, at-reads.Learnt, enemy-at-reads.Asked, enemy-at-reads.Learnt)
     reads.Pre reads.Post
 
 there : (b : Ahead) → OnGrid (b .nx .given .0 .0) (b .nx .given .0 .1 .0)
@@ -39,26 +39,31 @@ enum-told c = search needs
 
 returns : tie.Need-returns
 unfolding wayOf
-returns c = λ m ds l g e k. simp (sym (c .before .before .next-cell .ensures) ∙ c .enum-told .given .1)
+returns c = λ m g s. simp (sym (c .before .before .next-cell .ensures) ∙ c .enum-told .given .1)
 
 at-requires : tie.Need-at-requires
 at-requires c κs =
     let b = c .before in
-    record { cells = b .before .before .before .pre .cells; across = there b .across; down = there b .down }
+    record { cells = b .before .before .before .pre .lent .cells; across = there b .across; down = there b .down }
 
 returns-2 : tie.Need-returns-2
 unfolding wayOf
 returns-2 c =
     let b = c .before .before .before in
     let n = b .before .before in
-    λ m ds l g e k. simp (sym (n .next-cell .ensures) ∙ b .nx .given .1)
-    (goes-blocked m g e k (n .before .args .dir) (b .nx .given .0 .0) (b .nx .given .0 .1 .0) (there b) (λ q. c .if1 .taken (c .before .at .ensures ∙ q)))
+    λ m g s. simp (sym (n .next-cell .ensures) ∙ b .nx .given .1)
+    (goes-blocked m g s (n .before .args .dir) (b .nx .given .0 .0) (b .nx .given .0 .1 .0) (there b) (λ q. c .if1 .taken (c .before .at .ensures ∙ q)))
 
-slot-at-requires : tie.Need-slot-at-requires
-slot-at-requires c κs = search needs
+mul-enemy-at : tie.Need-mul-enemy-at
+mul-enemy-at c = omega (arith, there (c .before .before .before) .down)
+
+add-enemy-at : tie.Need-add-enemy-at
+add-enemy-at c = let t = there (c .before .before .before) in omega (arith, t .across, t .down)
 
 enemy-at-requires : tie.Need-enemy-at-requires
-enemy-at-requires c κs = search needs
+enemy-at-requires c κs =
+    let b = c .before .before .before in
+    record { slots = b .before .before .before .pre .lent .slots; inside = let t = there b in omega (arith, t .across, t .down) }
 
 enum-told-2 : tie.Need-enum-told-2
 enum-told-2 c = search needs
@@ -67,11 +72,11 @@ returns-3 : tie.Need-returns-3
 unfolding wayOf
 returns-3 c =
     let f = c .before .before in
-    let b = f .before .before .before .before .before in
+    let b = f .before .before .before .before in
     let n = b .before .before in
-    λ m ds l g e k. simp (sym (n .next-cell .ensures) ∙ b .nx .given .1)
-    (goes-met m g e k (n .before .args .dir) (b .nx .given .0 .0) (b .nx .given .0 .1 .0) (there b)
-    (sym (f .before .before .before .at .ensures) ∙ f .before .before .if1 .left) (sym (f .enemy-at .ensures ds l) ∙ c .enum-told2 .given .1))
+    λ m g s. simp (sym (n .next-cell .ensures) ∙ b .nx .given .1)
+    (goes-met m g s (n .before .args .dir) (b .nx .given .0 .0) (b .nx .given .0 .1 .0) (there b)
+    (sym (f .before .before .at .ensures) ∙ f .before .if1 .left) (sym (f .enemy-at .ensures) ∙ c .enum-told2 .given .1))
 
 enum-told-3 : tie.Need-enum-told-3
 enum-told-3 c = search needs
@@ -80,11 +85,11 @@ returns-4 : tie.Need-returns-4
 unfolding wayOf
 returns-4 c =
     let f = c .before .before in
-    let b = f .before .before .before .before .before in
+    let b = f .before .before .before .before in
     let n = b .before .before in
-    λ m ds l g e k. simp (sym (n .next-cell .ensures) ∙ b .nx .given .1)
-    (goes-open m g e k (n .before .args .dir) (b .nx .given .0 .0) (b .nx .given .0 .1 .0) (there b)
-    (sym (f .before .before .before .at .ensures) ∙ f .before .before .if1 .left) (sym (f .enemy-at .ensures ds l) ∙ c .enum-told3 .given .1))
+    λ m g s. simp (sym (n .next-cell .ensures) ∙ b .nx .given .1)
+    (goes-open m g s (n .before .args .dir) (b .nx .given .0 .0) (b .nx .given .0 .1 .0) (there b)
+    (sym (f .before .before .at .ensures) ∙ f .before .if1 .left) (sym (f .enemy-at .ensures) ∙ c .enum-told3 .given .1))
 
 pub way-spec : {M : Type 1} → statement M
 way-spec =
@@ -96,7 +101,8 @@ way-spec =
     returns
     at-requires
     returns-2
-    slot-at-requires
+    mul-enemy-at
+    add-enemy-at
     enemy-at-requires
     enum-told-2
     returns-3

@@ -1,50 +1,76 @@
-use mathlib.Core.Path.{ap}
-use Prim.Native.Nat.{ℕ, _+_}
 use native.Mathlib.Omega.{arith}
 use borrow.Author.Needs.{needs}
-use Rattle.mine_moves.proofs.Ahead.{right-small, down-small, ranges, steps-on, steps-off}
+use borrow.Author.Tests.{lt-ltb, le-ltb, ne-eqb}
+use Rattle.mine_rules.specs.Ways.{nextCell}
+use borrow.Author.Needs.{needs}
 use Rattle.mine_moves.proofs.ways.next_cell.Statement.{statement}
 use Rattle.mine_moves.proofs.ways.next_cell.Tie as tie
 
-rightward-requires : tie.Need-rightward-requires
-rightward-requires c κs = search needs
+sub-t7 : tie.Need-sub-t7
+sub-t7 c = search needs
 
-add-ax : tie.Need-add-ax
-add-ax c = let s = c .before in omega (arith, c .rightward .ensures, right-small (s .args .dir), s .pre .across)
+add-if2 : tie.Need-add-if2
+add-if2 c = search needs
 
-downward-requires : tie.Need-downward-requires
-downward-requires c κs = search needs
+add-t11 : tie.Need-add-t11
+add-t11 c = search needs
 
-add-ay : tie.Need-add-ay
-add-ay c = let s = c .before .before in omega (arith, c .downward .ensures, down-small (s .args .dir), s .pre .down)
+add-if3 : tie.Need-add-if3
+add-if3 c = search needs
+
+add-t15 : tie.Need-add-t15
+add-t15 c = search needs
+
+sub-t18 : tie.Need-sub-t18
+sub-t18 c = search needs
 
 returns : tie.Need-returns
-returns c =
-    let d = c .before in
-    let r = d .before in
-    let a = r .before .args in
-    steps-off (a .x) (a .y) _ _ (r .before .pre) (a .dir) (ap (λ (k : ℕ). a .x + k) (r .rightward .ensures)) (ap (λ (k : ℕ). a .y + k) (d .downward .ensures)) (c .if1 .taken)
-
-sub-t6 : tie.Need-sub-t6
-sub-t6 c =
-    let d = c .before in
-    let r = d .before in
-    omega (arith, ranges (r .before .args .x + r .rightward .result) (r .before .args .y + d .downward .result) (c .if1 .left))
-
-sub-t14 : tie.Need-sub-t14
-sub-t14 c =
-    let d = c .before in
-    let r = d .before in
-    omega (arith, ranges (r .before .args .x + r .rightward .result) (r .before .args .y + d .downward .result) (c .if1 .left))
+unfolding nextCell
+returns c = simp (c .before .match .keys1, lt-ltb _ _ (c .if1 .taken))
 
 returns-2 : tie.Need-returns-2
-returns-2 c =
-    let d = c .before in
-    let r = d .before in
-    let a = r .before .args in
-    steps-on (a .x) (a .y) _ _ (r .before .pre) (a .dir) (ap (λ (k : ℕ). a .x + k) (r .rightward .ensures)) (ap (λ (k : ℕ). a .y + k) (d .downward .ensures)) (c .if1 .left)
+unfolding nextCell
+returns-2 c = simp (c .before .match .keys1, le-ltb _ _ (c .if1 .left))
+
+returns-3 : tie.Need-returns-3
+unfolding nextCell
+returns-3 c = simp (c .before .match .keys2, lt-ltb _ _ (c .if2 .taken))
+
+returns-4 : tie.Need-returns-4
+unfolding nextCell
+returns-4 c = simp (c .before .match .keys2, le-ltb _ _ (c .if2 .left))
+
+returns-5 : tie.Need-returns-5
+unfolding nextCell
+returns-5 c = simp (c .before .match .keys3, lt-ltb _ _ (c .if3 .taken))
+
+returns-6 : tie.Need-returns-6
+unfolding nextCell
+returns-6 c = simp (c .before .match .keys3, le-ltb _ _ (c .if3 .left))
+
+returns-7 : tie.Need-returns-7
+unfolding nextCell
+returns-7 c = let r = c .before .match .rest in simp (ne-eqb _ _ (r .0 .0 .1), ne-eqb _ _ (r .0 .1), ne-eqb _ _ (r .1), lt-ltb _ _ (c .if4 .taken))
+
+returns-8 : tie.Need-returns-8
+unfolding nextCell
+returns-8 c = let r = c .before .match .rest in simp (ne-eqb _ _ (r .0 .0 .1), ne-eqb _ _ (r .0 .1), ne-eqb _ _ (r .1), le-ltb _ _ (c .if4 .left))
 
 pub next-cell-spec : {M : Type 1} → statement M
 next-cell-spec =
     tie.close
-    (tie.spec rightward-requires add-ax downward-requires add-ay returns sub-t6 sub-t14 returns-2)
+    (tie.spec
+    sub-t7
+    add-if2
+    add-t11
+    add-if3
+    add-t15
+    sub-t18
+    returns
+    returns-2
+    returns-3
+    returns-4
+    returns-5
+    returns-6
+    returns-7
+    returns-8)
