@@ -60,19 +60,17 @@ typedef struct {
     _Bool dead;
 } Fallen;
 
-void *rule_mine_step_on(Player *out, u8 *grid, const usize *xs, const usize *ys, usize count,
-                        usize px, usize py, u32 coins, u32 needed, _Bool dead, _Bool won, u8 dir);
-void by_rule_mine_step_on(u8 *grid, const usize *xs, const usize *ys, usize count, Player *p,
-                          u8 dir) {
-    rule_mine_step_on(p, grid, xs, ys, count, p->px, p->py, p->coins, p->needed, p->dead, p->won,
-                      dir);
+void *rule_mine_step_on(Player *out, u8 *grid, const u16 *spots, usize px, usize py, u32 coins,
+                        u32 needed, _Bool dead, _Bool won, u8 dir);
+void by_rule_mine_step_on(u8 *grid, const u16 *spots, Player *p, u8 dir) {
+    rule_mine_step_on(p, grid, spots, p->px, p->py, p->coins, p->needed, p->dead, p->won, dir);
 }
 
-Fallen rule_mine_gravity_on(u8 *grid, _Bool *falling, usize *xs, usize *ys, u8 *dirs, Fallen s,
-                            usize px, usize py);
-void by_rule_mine_gravity_on(u8 *grid, _Bool *falling, usize *xs, usize *ys, u8 *dirs, Fallen *s,
-                             usize px, usize py) {
-    *s = rule_mine_gravity_on(grid, falling, xs, ys, dirs, *s, px, py);
+Fallen rule_mine_gravity_on(u8 *grid, _Bool *falling, u16 *spots, u8 *dirs, Fallen s, usize px,
+                            usize py);
+void by_rule_mine_gravity_on(u8 *grid, _Bool *falling, u16 *spots, u8 *dirs, Fallen *s, usize px,
+                             usize py) {
+    *s = rule_mine_gravity_on(grid, falling, spots, dirs, *s, px, py);
 }
 
 typedef struct {

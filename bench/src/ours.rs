@@ -123,24 +123,34 @@ unsafe extern "C" {
     );
 }
 
+/// Cells in a row of the mine.
+const W: usize = 24;
+
 /// A mine whose creatures are taken apart, as the port's rules in place take them.
 #[derive(Clone)]
 pub struct Parts {
     pub mine: Mine,
-    pub xs: [usize; ENEMIES],
-    pub ys: [usize; ENEMIES],
+    pub spots: [u16; ENEMIES],
     pub dirs: [u8; ENEMIES],
 }
 
 impl Parts {
     pub fn of(m: &Mine) -> Self {
-        let (xs, ys) = (m.enemies.map(|e| e.x), m.enemies.map(|e| e.y));
-        Parts { mine: m.clone(), xs, ys, dirs: m.enemies.map(|e| e.dir) }
+        let mut spots = [CELLS as u16; ENEMIES];
+        for (spot, e) in spots.iter_mut().zip(&m.enemies[..m.count]) {
+            *spot = (e.y * W + e.x) as u16;
+        }
+        Parts { mine: m.clone(), spots, dirs: m.enemies.map(|e| e.dir) }
     }
 
     pub fn whole(&self) -> Mine {
-        let enemy = |i| Enemy { x: self.xs[i], y: self.ys[i], dir: self.dirs[i] };
-        Mine { enemies: std::array::from_fn(enemy), ..self.mine.clone() }
+        let mut whole = self.mine.clone();
+        whole.enemies = std::array::from_fn(|_| Enemy { x: 0, y: 0, dir: 0 });
+        for (i, e) in whole.enemies[..self.mine.count].iter_mut().enumerate() {
+            let at = self.spots[i] as usize;
+            *e = Enemy { x: at % W, y: at / W, dir: self.dirs[i] };
+        }
+        whole
     }
 }
 
@@ -166,17 +176,14 @@ struct Fallen {
 unsafe extern "C" {
     safe fn by_rule_mine_step_on(
         grid: &mut [u8; CELLS],
-        xs: &[usize; ENEMIES],
-        ys: &[usize; ENEMIES],
-        count: usize,
+        spots: &[u16; ENEMIES],
         p: &mut Player,
         dir: u8,
     );
     safe fn by_rule_mine_gravity_on(
         grid: &mut [u8; CELLS],
         falling: &mut [bool; CELLS],
-        xs: &mut [usize; ENEMIES],
-        ys: &mut [usize; ENEMIES],
+        spots: &mut [u16; ENEMIES],
         dirs: &mut [u8; ENEMIES],
         s: &mut Fallen,
         px: usize,
@@ -184,8 +191,7 @@ unsafe extern "C" {
     );
     safe fn rule_mine_tick_on(
         grid: &[u8; CELLS],
-        xs: &mut [usize; ENEMIES],
-        ys: &mut [usize; ENEMIES],
+        spots: &mut [u16; ENEMIES],
         dirs: &mut [u8; ENEMIES],
         count: usize,
         px: usize,
@@ -193,21 +199,21 @@ unsafe extern "C" {
     ) -> bool;
 }
 
-pub fn mine_step_on(Parts { mine: m, xs, ys, .. }: &mut Parts, dir: u8) {
+pub fn mine_step_on(Parts { mine: m, spots, .. }: &mut Parts, dir: u8) {
     let Mine { px, py, coins, needed, dead, won, .. } = *m;
     let mut p = Player { px, py, coins, needed, dead, won };
-    by_rule_mine_step_on(&mut m.grid, xs, ys, m.count, &mut p, dir);
+    by_rule_mine_step_on(&mut m.grid, spots, &mut p, dir);
     (m.px, m.py, m.coins, m.dead, m.won) = (p.px, p.py, p.coins, p.dead, p.won);
 }
 
-pub fn mine_gravity_on(Parts { mine: m, xs, ys, dirs }: &mut Parts) {
+pub fn mine_gravity_on(Parts { mine: m, spots, dirs }: &mut Parts) {
     let mut s = Fallen { count: m.count, coins: m.coins, dead: m.dead };
-    by_rule_mine_gravity_on(&mut m.grid, &mut m.falling, xs, ys, dirs, &mut s, m.px, m.py);
+    by_rule_mine_gravity_on(&mut m.grid, &mut m.falling, spots, dirs, &mut s, m.px, m.py);
     (m.count, m.coins, m.dead) = (s.count, s.coins, s.dead);
 }
 
-pub fn mine_tick_on(Parts { mine: m, xs, ys, dirs }: &mut Parts) {
-    m.dead |= rule_mine_tick_on(&m.grid, xs, ys, dirs, m.count, m.px, m.py);
+pub fn mine_tick_on(Parts { mine: m, spots, dirs }: &mut Parts) {
+    m.dead |= rule_mine_tick_on(&m.grid, spots, dirs, m.count, m.px, m.py);
 }
 
 unsafe extern "C" {
