@@ -75,7 +75,8 @@ spot-slot zero (e ∷ l) h = refl
 spot-slot (suc n) (e ∷ l) h = spot-slot n l (le-of-suc-le-suc h)
 
 -- where a creature is squashed, its place goes as it goes: the last takes its place
-pub spots-without : (n : ℕ) (l : List Enemy) (k : ℕ) → k < n → n ≤ length l → spotsFrom (n - 1) (set (set l k (getD l (n - 1) blankSlot)) (n - 1) blankSlot) ≡ set (set (spotsFrom n l) k (getD (spotsFrom n l) (n - 1) 0)) (n - 1) AREA
+pub spots-without : (n : ℕ) (l : List Enemy) (k : ℕ) → k < n → n ≤ length l
+    → spotsFrom (n - 1) (set (set l k (getD l (n - 1) blankSlot)) (n - 1) blankSlot) ≡ set (set (spotsFrom n l) k (getD (spotsFrom n l) (n - 1) 0)) (n - 1) AREA
 spots-without zero l k h b = absurd (not-suc-le-zero h)
 spots-without (suc n) l k h b =
     let q : suc n - 1 ≡ n = omega arith in
@@ -118,7 +119,8 @@ module _ {m : Mine} {spots : List ℕ} {player : ℕ} (s : Stand m spots player)
   unfolding freeSpot freeAt
   free-spot x y = go (emptyAt (m .grid) x y) refl
     where
-      go : (t : Bool) → emptyAt (m .grid) x y ≡ t → (t && not (eqb player (place x y)) && nobody (firstSpot (place x y) spots)) ≡ (t && not (playerAt m x y) && nobody (firstAt m x y))
+      go : (t : Bool) → emptyAt (m .grid) x y ≡ t
+          → (t && not (eqb player (place x y)) && nobody (firstSpot (place x y) spots)) ≡ (t && not (playerAt m x y) && nobody (firstAt m x y))
       go true e =
           let h = empty-inside (m .grid) x y e in
           rw (player-spot x y (h .0), first-spot m (s .spotted) x y (h .0) (h .1))

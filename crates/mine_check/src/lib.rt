@@ -1,6 +1,5 @@
 // Block Mine: the check of a state that a caller hands in: what document 01 calls bad gets its number.
 use mine_state::AREA;
-use mine_state::COIN;
 use mine_state::EMPTY;
 use mine_state::EXIT;
 use mine_state::Enemy;
@@ -8,6 +7,7 @@ use mine_state::H;
 use mine_state::MAX_ENEMIES;
 use mine_state::Mine;
 use mine_state::W;
+use mine_state::coin_count;
 use mine_state::stands_at;
 use refusal::Refusal;
 ghost use mathlib.Core.Bool.{_&&_, cond};
@@ -18,9 +18,6 @@ ghost use lib.ListN.{length, take, drop};
 ghost use Rattle.laws.specs.Lists.{all, count};
 ghost use Rattle.mine_state.specs.State.{AREA, MAX-ENEMIES, emptyAt, isCoin, isCode};
 ghost use Rattle.mine_state.specs.WellFormed.{creatureOk, apart, isBlank, refusalOf};
-
-// The cells of half a grid, few enough to be counted in a byte.
-const HALF: usize = AREA / 2;
 
 fn larger(a: u8, b: u8) -> u8
     ensures { λ r. ⌜ r ≡ cond (ltb a b) b a ⌝ }
@@ -71,22 +68,6 @@ fn is_blank(e: Enemy) -> bool
     ensures { λ r. ⌜ r ≡ isBlank e ⌝ }
 {
     (e.x == 0) & (e.y == 0) & (e.dir == 0)
-}
-
-// How many cells hold a coin. Each half of the grid is counted in a byte.
-pub fn coin_count(grid: &[u8; AREA]) -> u16
-    requires { ⌜ length (now grid) ≡ AREA ⌝ }
-    ensures { λ r. ⌜ (r ≡ count isCoin (now (grid .entry))) × (r ≤ AREA) ⌝ }
-{
-    let mut upper: u8 = 0;
-    let mut lower: u8 = 0;
-    let mut i: usize = 0;
-    while i < HALF {
-        upper += (grid[i] == COIN) as u8;
-        lower += (grid[HALF + i] == COIN) as u8;
-        i += 1;
-    }
-    upper as u16 + lower as u16
 }
 
 // Each creature is right by itself and no later one stands on its cell; the slots past the count hold zeros. One function, which

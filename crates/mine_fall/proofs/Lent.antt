@@ -59,6 +59,7 @@ module _ {m : Mine} {spots : List ℕ} {player : ℕ} (s : Stand m spots player)
   found x y hx hy e = sym (first-spot m (s .spotted) x y hx hy) ∙ e
 
 -- the last case of a cell: over anything but empty and objects
-pub cell-rests : (m : Mine) (x y : ℕ) → isObject (codeAt m x y) ≡ true → leb H (y + 1) ≡ false → eqb (codeAt m x (y + 1)) EMPTY ≡ false → isObject (codeAt m x (y + 1)) ≡ false → cellFall m x y ≡ rested m x y
+pub cell-rests : (m : Mine) (x y : ℕ) → isObject (codeAt m x y) ≡ true → leb H (y + 1) ≡ false → eqb (codeAt m x (y + 1)) EMPTY ≡ false
+    → isObject (codeAt m x (y + 1)) ≡ false → cellFall m x y ≡ rested m x y
 unfolding cellFall overOther
 cell-rests m x y o l e u = rw (o, l, e, u)

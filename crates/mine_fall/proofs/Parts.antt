@@ -34,13 +34,15 @@ sound-whole m m′ e s = rw e (record { cells = s .cells; marks = s .marks; slot
 abbrev closed : List Enemy → ℕ → ℕ → List Enemy
 closed es k last = set (set es k (getD es last blankSlot)) last blankSlot
 
-joined-closed : (n : ℕ) (ss ds : List ℕ) (k : ℕ) → length ds ≡ length ss → k < n → n ≤ length ss → joined (n - 1) (left ss k (n - 1) AREA) (left ds k (n - 1) 0) ≡ closed (joined n ss ds) k (n - 1)
+joined-closed : (n : ℕ) (ss ds : List ℕ) (k : ℕ) → length ds ≡ length ss → k < n → n ≤ length ss
+    → joined (n - 1) (left ss k (n - 1) AREA) (left ds k (n - 1) 0) ≡ closed (joined n ss ds) k (n - 1)
 joined-closed zero ss ds k l h b = absurd (not-suc-le-zero h)
 joined-closed (suc n) ss ds k l h b =
     let q : suc n - 1 ≡ n = omega arith in
     rw q
     (joined-less n (set ss k (getD ss n 0)) (set ds k (getD ds n 0)) AREA 0 (simp length-set l)
-    ∙ ap (λ (t : List Enemy). set t n blankSlot) (joined-set (suc n) ss ds k (getD ss n 0) (getD ds n 0) l h ∙ ap (set (joined (suc n) ss ds) k) (sym (joined-at (suc n) ss ds n l (omega arith) (omega arith)))))
+    ∙ ap (λ (t : List Enemy). set t n blankSlot)
+    (joined-set (suc n) ss ds k (getD ss n 0) (getD ds n 0) l h ∙ ap (set (joined (suc n) ss ds) k) (sym (joined-at (suc n) ss ds n l (omega arith) (omega arith)))))
 
 -- a creature goes, the last takes its slot
 module _ {n : ℕ} {spots ds : List ℕ} (a : Apart n spots ds) (k : ℕ) (h : k < n) where
@@ -69,6 +71,7 @@ module _ {n : ℕ} {spots ds : List ℕ} (a : Apart n spots ds) (k : ℕ) (h : k
       }
 
   pub without-one : (m : Mine) (px py : ℕ) (g : List ℕ) (f : List Bool) (c : ℕ) (d : Bool)
-      → without (whole m px py g f (joined n spots ds) (numbers n c d)) k ≡ whole m px py g f (joined (n - 1) (left spots k (n - 1) AREA) (left ds k (n - 1) 0)) (numbers (n - 1) c d)
+      → without (whole m px py g f (joined n spots ds) (numbers n c d)) k
+      ≡ whole m px py g f (joined (n - 1) (left spots k (n - 1) AREA) (left ds k (n - 1) 0)) (numbers (n - 1) c d)
   unfolding without
   without-one m px py g f c d = ap (λ (es : List Enemy). whole m px py g f es (numbers (n - 1) c d)) (sym joined-left)

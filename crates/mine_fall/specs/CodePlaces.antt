@@ -30,6 +30,7 @@ pub record Falling (g : List ℕ) (f : List Bool) (spots ds : List ℕ) (s : Fal
   pub sound : (m : Mine) → Sound (whole m px py g f (joined (s .count) spots ds) s)
 
 -- whatever else a state holds, the rule makes the second arrays and numbers of the first
-pub record Dropped (rule : Mine → Mine) (px py : ℕ) (g : List ℕ) (f : List Bool) (spots ds : List ℕ) (s : Fallen) (g′ : List ℕ) (f′ : List Bool) (spots′ ds′ : List ℕ) (r : Fallen) : Type 0 where
+pub record Dropped (rule : Mine → Mine) (px py : ℕ) (g : List ℕ) (f : List Bool) (spots ds : List ℕ) (s : Fallen) (g′ : List ℕ) (f′ : List Bool) (spots′ ds′ : List ℕ)
+    (r : Fallen) : Type 0 where
   pub parts : Apart (r .count) spots′ ds′
   pub does : (m : Mine) → rule (whole m px py g f (joined (s .count) spots ds) s) ≡ whole m px py g′ f′ (joined (r .count) spots′ ds′) r

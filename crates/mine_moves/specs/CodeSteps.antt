@@ -92,7 +92,18 @@ pub record Walkers (g spots ds : List ℕ) (n : ℕ) : Type 0 where
 
 -- the player is dead besides, where that is so
 abbrev pub deadIf : Bool → Mine → Mine
-deadIf so m = record { grid = m .grid; falling = m .falling; px = m .px; py = m .py; enemies = m .enemies; count = m .count; coins = m .coins; needed = m .needed; dead = so || m .dead; won = m .won }
+deadIf so m = record {
+  grid = m .grid;
+  falling = m .falling;
+  px = m .px;
+  py = m .py;
+  enemies = m .enemies;
+  count = m .count;
+  coins = m .coins;
+  needed = m .needed;
+  dead = so || m .dead;
+  won = m .won;
+}
 
 -- whatever else a state holds that the lent parts make: the rule leaves these creatures, and r tells whether one caught the player
 pub record Ticked (rule : Mine → Mine) (g : List ℕ) (n px py : ℕ) (spots ds : List ℕ) (r : Bool) (spots′ ds′ : List ℕ) : Type 0 where

@@ -1,6 +1,5 @@
 // The one level, and how a text is read as a mine.
 use controls::RIGHT;
-use mine_check::coin_count;
 use mine_state::AREA;
 use mine_state::BOULDER;
 use mine_state::COIN;
@@ -12,6 +11,7 @@ use mine_state::MAX_ENEMIES;
 use mine_state::Mine;
 use mine_state::W;
 use mine_state::WALL;
+use mine_state::coin_count;
 ghost use mathlib.Core.Path.{_≡_};
 ghost use lib.ListN.{length, getD};
 ghost use Rattle.laws.specs.Lists.{table};
@@ -52,7 +52,7 @@ fn tile_of(c: u8) -> u8
     }
 }
 
-// The tiles of a text: a pass of its own, so that a character's tile is looked up and never a branch.
+// The tiles of a text: a pass of its own, so that no character is a branch.
 fn tiles_of(text: &[u8; AREA]) -> [u8; AREA]
     requires { ⌜ length (now text) ≡ AREA ⌝ }
     ensures { λ r. ⌜ r ≡ table AREA (λ i. tileOf (getD (now (text .entry)) i 0)) ⌝ }
@@ -79,18 +79,17 @@ fn mine_of(text: &[u8; AREA]) -> Mine
     let mut i: usize = 0;
     while i < AREA {
         let c = text[i];
-        let x = i % W;
-        let y = i / W;
+        let at = i;
         i += 1;
         match c {
             b'P' => {
-                px = x;
-                py = y;
+                px = at % W;
+                py = at / W;
             }
             b'E' => if count < MAX_ENEMIES {
                 enemies[count] = Enemy {
-                    x: x,
-                    y: y,
+                    x: at % W,
+                    y: at / W,
                     dir: RIGHT,
                 };
                 count += 1;

@@ -1,8 +1,8 @@
 // The cell one step away.
-use mine_rules::Ahead;
 use controls::DOWN;
 use controls::RIGHT;
 use controls::UP;
+use mine_rules::Ahead;
 use mine_state::H;
 use mine_state::W;
 ghost use mathlib.Core.Path.{_≡_};

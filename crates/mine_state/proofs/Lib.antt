@@ -3,3 +3,4 @@ pub mod Cells
 pub mod Facts
 pub mod Cases
 pub mod Alone
+pub mod Coins

@@ -1,6 +1,9 @@
 // Block Mine: the state.
 ghost use mathlib.Core.Path.{_≡_};
-ghost use Rattle.mine_state.specs.State.{AREA, codeIn, standsAt};
+ghost use Prim.Native.Nat.{_≤_};
+ghost use lib.ListN.{length};
+ghost use Rattle.laws.specs.Lists.{count};
+ghost use Rattle.mine_state.specs.State.{AREA, codeIn, isCoin, standsAt};
 ghost use Rattle.mine_state.specs.CodeState.{CellOf};
 
 // Level dimensions, in tiles.
@@ -62,4 +65,23 @@ pub fn stands_at(e: Enemy, x: usize, y: usize) -> bool
     ensures { λ r. ⌜ r ≡ standsAt x y e ⌝ }
 {
     (e.x == x) & (e.y == y)
+}
+
+// The cells of half a grid, few enough to be counted in a byte.
+const HALF: usize = AREA / 2;
+
+// How many cells hold a coin. Each half of the grid is counted in a byte.
+pub fn coin_count(grid: &[u8; AREA]) -> u16
+    requires { ⌜ length (now grid) ≡ AREA ⌝ }
+    ensures { λ r. ⌜ (r ≡ count isCoin (now (grid .entry))) × (r ≤ AREA) ⌝ }
+{
+    let mut upper: u8 = 0;
+    let mut lower: u8 = 0;
+    let mut i: usize = 0;
+    while i < HALF {
+        upper += (grid[i] == COIN) as u8;
+        lower += (grid[HALF + i] == COIN) as u8;
+        i += 1;
+    }
+    upper as u16 + lower as u16
 }

@@ -69,7 +69,8 @@ module _ (m : Mine) (w : WellFormed m) {r : Parts} (e : r ≡ parted (m .enemies
           record { cells = z .cells; parts = d .parts }
 
 -- nothing due: marks and state are as the keys left them
-module _ (first second time : ℕ) (p : Played Mine) (k : p .quit ≡ false) {due : Ticks} (t : due ≡ bothTicks time first second GRAVITY-CYCLES ENEMY-CYCLES) (n : (due .one || due .two) ≡ false) where
+module _ (first second time : ℕ) (p : Played Mine) (k : p .quit ≡ false) {due : Ticks} (t : due ≡ bothTicks time first second GRAVITY-CYCLES ENEMY-CYCLES)
+    (n : (due .one || due .two) ≡ false) where
   not-one : due .one ≡ false
   not-one = or-left (due .one) (due .two) n
 

@@ -34,4 +34,5 @@ Keyed g spots p key g′ r = (f : List Bool) (es : List Enemy) (n : ℕ) → Spo
 
 -- and all keys
 abbrev pub Plays : List ℕ → List ℕ → Player → List ℕ → List ℕ → Pressed → Type 0
-Plays g spots p keys g′ r = (f : List Bool) (es : List Enemy) (n : ℕ) → Spotted es n spots → played (playing f g es n p) keys ≡ record { quit = r .quit; game = playing f g′ es n (r .player) }
+Plays g spots p keys g′ r = (f : List Bool) (es : List Enemy) (n : ℕ) → Spotted es n spots
+    → played (playing f g es n p) keys ≡ record { quit = r .quit; game = playing f g′ es n (r .player) }

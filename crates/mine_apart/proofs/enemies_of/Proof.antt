@@ -21,31 +21,10 @@ abbrev μ-loop : tie.MeasureT-loop
 loop-holds : tie.Need-loop-holds Inv-loop μ-loop
 loop-holds c = (omega arith, joined-begins (c .args .spots .now) (c .args .dirs .now) (c .pre .slots) (c .pre .ways))
 
-mul-at : tie.Need-mul-at Inv-loop μ-loop
-mul-at c = search needs
-
-element-copy-out-at : tie.Need-element-copy-out-at Inv-loop μ-loop
-element-copy-out-at c = search needs
-
 cast-at : tie.Need-cast-at Inv-loop μ-loop
 cast-at c =
     let k = c .before .before in
     omega (arith, spot-inside (k .before .pre) (k .loop .i))
-
-element-copy-out-t16 : tie.Need-element-copy-out-t16 Inv-loop μ-loop
-element-copy-out-t16 c = search needs
-
-mul-out : tie.Need-mul-out Inv-loop μ-loop
-mul-out c = search needs
-
-array-set-from-out : tie.Need-array-set-from-out Inv-loop μ-loop
-array-set-from-out c = search needs
-
-add-i : tie.Need-add-i Inv-loop μ-loop
-add-i c = search needs
-
-loop-less : tie.Need-loop-less Inv-loop μ-loop
-loop-less c = search needs
 
 loop-again : tie.Need-loop-again Inv-loop μ-loop
 loop-again c =
@@ -53,8 +32,11 @@ loop-again c =
     let a = k .before .args in
     let p = k .before .pre in
     let i = k .loop .i in
-    let l = p .ways ∙ sym (p .slots) in
-    (omega arith, ap (λ (t : List Enemy). set t i (creature (getD (a .spots .now) i 0) (getD (a .dirs .now) i 0))) (k .loop .inv .1) ∙ joined-more i (a .spots .now) (a .dirs .now) l (omega (arith, p .few, p .slots)))
+    let l = p .ways ∙ sym (p .slots) in (
+      omega arith,
+      ap (λ (t : List Enemy). set t i (creature (getD (a .spots .now) i 0) (getD (a .dirs .now) i 0))) (k .loop .inv .1)
+          ∙ joined-more i (a .spots .now) (a .dirs .now) l (omega (arith, p .few, p .slots)),
+    )
 
 returns : tie.Need-returns Inv-loop μ-loop
 returns c =
@@ -70,13 +52,13 @@ enemies-of-spec =
     Inv-loop
     μ-loop
     loop-holds
-    mul-at
-    element-copy-out-at
+    (λ c. search needs)
+    (λ c. search needs)
     cast-at
-    element-copy-out-t16
-    mul-out
-    array-set-from-out
-    add-i
-    loop-less
+    (λ c. search needs)
+    (λ c. search needs)
+    (λ c. search needs)
+    (λ c. search needs)
+    (λ c. search needs)
     loop-again
     returns)

@@ -23,9 +23,6 @@ abbrev μ-loop : tie.MeasureT-loop
 cast-place : tie.Need-cast-place Inv-loop μ-loop
 cast-place c = omega (arith, c .pre .inside)
 
-somebody-requires : tie.Need-somebody-requires Inv-loop μ-loop
-somebody-requires c κs = search needs
-
 returns : tie.Need-returns Inv-loop μ-loop
 returns c =
     let s = c .before in
@@ -34,14 +31,8 @@ returns c =
 loop-holds : tie.Need-loop-holds Inv-loop μ-loop
 loop-holds c = (omega arith, refl)
 
-mul-if2 : tie.Need-mul-if2 Inv-loop μ-loop
-mul-if2 c = search needs
-
 element-copy-out-if2 : tie.Need-element-copy-out-if2 Inv-loop μ-loop
 element-copy-out-if2 c = omega (arith, c .before .before .before .before .pre .slots)
-
-number-from-requires : tie.Need-number-from-requires Inv-loop μ-loop
-number-from-requires c κs = search needs
 
 returns-2 : tie.Need-returns-2 Inv-loop μ-loop
 returns-2 c =
@@ -78,12 +69,12 @@ enemy-at-spec =
     Inv-loop
     μ-loop
     cast-place
-    somebody-requires
+    (λ c κs. search needs)
     returns
     loop-holds
-    mul-if2
+    (λ c. search needs)
     element-copy-out-if2
-    number-from-requires
+    (λ c κs. search needs)
     returns-2
     add-i
     loop-less

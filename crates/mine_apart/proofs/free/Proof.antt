@@ -18,15 +18,6 @@ returns-2 : tie.Need-returns-2
 unfolding freeSpot emptyAt
 returns-2 c = simp (lt-ltb _ _ (c .before .if1 .left), le-ltb _ _ (c .if2 .taken))
 
-mul-at : tie.Need-mul-at
-mul-at c = search needs
-
-add-at : tie.Need-add-at
-add-at c = search needs
-
-element-copy-out-if3 : tie.Need-element-copy-out-if3
-element-copy-out-if3 c = search needs
-
 returns-3 : tie.Need-returns-3
 unfolding freeSpot emptyAt
 returns-3 c = let k = c .before .before in simp (lt-ltb _ _ (k .before .if1 .left), lt-ltb _ _ (k .if2 .left), ne-eqb _ _ (c .if3 .taken))
@@ -41,9 +32,6 @@ cast-somebody : tie.Need-cast-somebody
 cast-somebody c =
     let k = c .before .before .before in
     omega (arith, k .before .if1 .left, k .if2 .left)
-
-somebody-requires : tie.Need-somebody-requires
-somebody-requires c κs = search needs
 
 returns-5 : tie.Need-returns-5
 unfolding freeSpot emptyAt
@@ -60,11 +48,11 @@ free-spec =
     (tie.spec
     returns
     returns-2
-    mul-at
-    add-at
-    element-copy-out-if3
+    (λ c. search needs)
+    (λ c. search needs)
+    (λ c. search needs)
     returns-3
     returns-4
     cast-somebody
-    somebody-requires
+    (λ c κs. search needs)
     returns-5)

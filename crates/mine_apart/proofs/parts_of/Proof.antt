@@ -30,12 +30,6 @@ loop-holds c =
     let eight : length (c .args .t1) ≡ MAX-ENEMIES = search (needs, mapped) in
     (omega arith, up-begins AREA spotOf (c .args .t1) eight, up-begins 0 dirOf (c .args .t1) eight)
 
-mul-e : tie.Need-mul-e Inv-loop μ-loop
-mul-e c = search needs
-
-array-copy-out-e : tie.Need-array-copy-out-e Inv-loop μ-loop
-array-copy-out-e c = search needs
-
 mul-at : tie.Need-mul-at Inv-loop μ-loop
 mul-at c =
     let k = c .before .before .before in
@@ -50,21 +44,6 @@ cast-spots : tie.Need-cast-spots Inv-loop μ-loop
 cast-spots c =
     let k = c .before .before .before .before in
     omega (arith, inside (k .before .args .t1) (k .before .pre .placed) (k .loop .i))
-
-mul-spots : tie.Need-mul-spots Inv-loop μ-loop
-mul-spots c = search needs
-
-array-write-spots : tie.Need-array-write-spots Inv-loop μ-loop
-array-write-spots c = search needs
-
-array-write-dirs : tie.Need-array-write-dirs Inv-loop μ-loop
-array-write-dirs c = search needs
-
-add-i : tie.Need-add-i Inv-loop μ-loop
-add-i c = search needs
-
-loop-less : tie.Need-loop-less Inv-loop μ-loop
-loop-less c = search needs
 
 loop-again : tie.Need-loop-again Inv-loop μ-loop
 loop-again c =
@@ -91,15 +70,15 @@ parts-of-spec =
     Inv-loop
     μ-loop
     loop-holds
-    mul-e
-    array-copy-out-e
+    (λ c. search needs)
+    (λ c. search needs)
     mul-at
     add-at
     cast-spots
-    mul-spots
-    array-write-spots
-    array-write-dirs
-    add-i
-    loop-less
+    (λ c. search needs)
+    (λ c. search needs)
+    (λ c. search needs)
+    (λ c. search needs)
+    (λ c. search needs)
     loop-again
     returns)

@@ -21,17 +21,8 @@ abbrev μ-loop : tie.MeasureT-loop
 loop-holds : tie.Need-loop-holds Inv-loop μ-loop
 loop-holds c = (omega arith, refl)
 
-mul-some : tie.Need-mul-some Inv-loop μ-loop
-mul-some c = search needs
-
 element-copy-out-some : tie.Need-element-copy-out-some Inv-loop μ-loop
 element-copy-out-some c = omega (arith, c .before .before .pre)
-
-add-i : tie.Need-add-i Inv-loop μ-loop
-add-i c = search needs
-
-loop-less : tie.Need-loop-less Inv-loop μ-loop
-loop-less c = search needs
 
 loop-again : tie.Need-loop-again Inv-loop μ-loop
 loop-again c =
@@ -52,9 +43,9 @@ somebody-spec =
     Inv-loop
     μ-loop
     loop-holds
-    mul-some
+    (λ c. search needs)
     element-copy-out-some
-    add-i
-    loop-less
+    (λ c. search needs)
+    (λ c. search needs)
     loop-again
     returns)

@@ -34,7 +34,8 @@ returns c =
     let m = s .args .m in
     ap (λ (es : List Enemy). whole m (m .px) (m .py) (g .gravity-on .last .0) (g .gravity-on .last .1 .0) es (g .gravity-on .result)) (c .enemies-of .ensures)
     ∙ sym (g .gravity-on .ensures .does m)
-    ∙ ap (λ (es : List Enemy). gravityOf (whole m (m .px) (m .py) (m .grid) (m .falling) es (numbers (m .count) (m .coins) (m .dead)))) (whole-again m (s .pre) (r .parts-of .ensures))
+    ∙ ap (λ (es : List Enemy). gravityOf (whole m (m .px) (m .py) (m .grid) (m .falling) es (numbers (m .count) (m .coins) (m .dead))))
+    (whole-again m (s .pre) (r .parts-of .ensures))
 
 pub gravity-spec : {M : Type 1} → statement M
 gravity-spec = tie.close (tie.spec parts-of-requires gravity-on-requires enemies-of-requires returns)

@@ -24,21 +24,34 @@ use Rattle.mine_fall.proofs.cells.quiet.Reads as quiet-reads
 
 abbrev Inv-loop2 : tie.InvT-loop2
 Inv-loop2 grid₀ falling₀ spots₀ dirs₀ px py count₀ coins₀ dead₀ player y x₀ grid falling spots dirs count coins dead x =
-    (x ≤ W) × (y < H) × Apart count spots dirs × ((m : Mine) → During (cellsLeft y 0 (whole m px py grid₀ falling₀ (joined count₀ spots₀ dirs₀) (numbers count₀ coins₀ dead₀))) (cellsLeft y x) (whole m px py grid falling (joined count spots dirs) (numbers count coins dead)))
+    (x ≤ W) × (y < H) × Apart count spots dirs × ((m : Mine)
+    → During (cellsLeft y 0 (whole m px py grid₀ falling₀ (joined count₀ spots₀ dirs₀) (numbers count₀ coins₀ dead₀))) (cellsLeft y x)
+    (whole m px py grid falling (joined count spots dirs) (numbers count coins dead)))
 
 abbrev μ-loop2 : tie.MeasureT-loop2
 μ-loop2 grid₀ falling₀ spots₀ dirs₀ px py count₀ coins₀ dead₀ player y x₀ grid falling spots dirs count coins dead x = W - x
 
 abbrev Inv-loop : tie.InvT-loop
 Inv-loop grid₀ falling₀ spots₀ dirs₀ px py count₀ coins₀ dead₀ player y₀ grid falling spots dirs count coins dead y =
-    (y ≤ H) × Apart count spots dirs × ((m : Mine) → During (gravityOf (whole m px py grid₀ falling₀ (joined count₀ spots₀ dirs₀) (numbers count₀ coins₀ dead₀))) (rowsLeft y) (whole m px py grid falling (joined count spots dirs) (numbers count coins dead)))
+    (y ≤ H) × Apart count spots dirs × ((m : Mine)
+    → During (gravityOf (whole m px py grid₀ falling₀ (joined count₀ spots₀ dirs₀) (numbers count₀ coins₀ dead₀))) (rowsLeft y)
+    (whole m px py grid falling (joined count spots dirs) (numbers count coins dead)))
 
 abbrev μ-loop : tie.MeasureT-loop
 μ-loop grid₀ falling₀ spots₀ dirs₀ px py count₀ coins₀ dead₀ player y₀ grid falling spots dirs count coins dead y = y
 
 -- At the head of a row.
 abbrev Row : Type 0
-Row = lts.At-loop (quiet-reads.Asked, quiet-reads.Learnt, cell-fall-reads.Asked, cell-fall-reads.Learnt, leave-spot-reads.Asked, leave-spot-reads.Learnt, leave-dir-reads.Asked, leave-dir-reads.Learnt) reads.Pre reads.Post Inv-loop2 μ-loop2 Inv-loop μ-loop
+Row = lts.At-loop (
+  quiet-reads.Asked,
+  quiet-reads.Learnt,
+  cell-fall-reads.Asked,
+  cell-fall-reads.Learnt,
+  leave-spot-reads.Asked,
+  leave-spot-reads.Learnt,
+  leave-dir-reads.Asked,
+  leave-dir-reads.Learnt,
+) reads.Pre reads.Post Inv-loop2 μ-loop2 Inv-loop μ-loop
 
 abbrev row-state : Row → Mine → Mine
 row-state c m =
@@ -48,7 +61,16 @@ row-state c m =
 
 -- At a cell.
 abbrev Cell : Type 0
-Cell = lts.At-loop2 (quiet-reads.Asked, quiet-reads.Learnt, cell-fall-reads.Asked, cell-fall-reads.Learnt, leave-spot-reads.Asked, leave-spot-reads.Learnt, leave-dir-reads.Asked, leave-dir-reads.Learnt) reads.Pre reads.Post Inv-loop2 μ-loop2 Inv-loop μ-loop
+Cell = lts.At-loop2 (
+  quiet-reads.Asked,
+  quiet-reads.Learnt,
+  cell-fall-reads.Asked,
+  cell-fall-reads.Learnt,
+  leave-spot-reads.Asked,
+  leave-spot-reads.Learnt,
+  leave-dir-reads.Asked,
+  leave-dir-reads.Learnt,
+) reads.Pre reads.Post Inv-loop2 μ-loop2 Inv-loop μ-loop
 
 abbrev at-row : Cell → Row
 at-row c = c .before .before .before .before .before
@@ -67,7 +89,16 @@ few c = c .loop2 .inv .2 .few
 
 -- After the cell's call.
 abbrev Called : Type 0
-Called = lts.After-cell-fall (quiet-reads.Asked, quiet-reads.Learnt, cell-fall-reads.Asked, cell-fall-reads.Learnt, leave-spot-reads.Asked, leave-spot-reads.Learnt, leave-dir-reads.Asked, leave-dir-reads.Learnt) reads.Pre reads.Post Inv-loop2 μ-loop2 Inv-loop μ-loop
+Called = lts.After-cell-fall (
+  quiet-reads.Asked,
+  quiet-reads.Learnt,
+  cell-fall-reads.Asked,
+  cell-fall-reads.Learnt,
+  leave-spot-reads.Asked,
+  leave-spot-reads.Learnt,
+  leave-dir-reads.Asked,
+  leave-dir-reads.Learnt,
+) reads.Pre reads.Post Inv-loop2 μ-loop2 Inv-loop μ-loop
 
 abbrev cell : Called → Cell
 cell c = c .before .before .before .before .before
@@ -76,7 +107,8 @@ abbrev after : Called → Fell → Mine → Mine
 after c r m = happened r (lent (state (cell c) m) (c .cell-fall .last .0) (c .cell-fall .last .1 .0))
 
 -- what the call told, where r is its answer
-told : (c : Called) {r : Fell} (m : Mine) → c .cell-fall .result ≡ r → (cellFall (state (cell c) m) (cell c .loop2 .x) (row (cell c)) ≡ after c r m) × Below r (cell c .loop2 .count)
+told : (c : Called) {r : Fell} (m : Mine) → c .cell-fall .result ≡ r
+    → (cellFall (state (cell c) m) (cell c .loop2 .x) (row (cell c)) ≡ after c r m) × Below r (cell c .loop2 .count)
 told c m e =
     subst
     (λ (r : Fell). (cellFall (state (cell c) m) (cell c .loop2 .x) (row (cell c)) ≡ after c r m) × Below r (cell c .loop2 .count))
@@ -84,7 +116,8 @@ told c m e =
     (c .cell-fall .ensures (state (cell c) m) (stands (state (cell c) m) (cell c .loop2 .inv .3 m) (cell c .loop2 .inv .2 .spotted)))
 
 -- the cell is done
-done : (c : Called) {r : Fell} (m : Mine) → c .cell-fall .result ≡ r → During (cellsLeft (row (cell c)) 0 (row-state (at-row (cell c)) m)) (cellsLeft (row (cell c)) (cell c .loop2 .x + 1)) (after c r m)
+done : (c : Called) {r : Fell} (m : Mine) → c .cell-fall .result ≡ r
+    → During (cellsLeft (row (cell c)) 0 (row-state (at-row (cell c)) m)) (cellsLeft (row (cell c)) (cell c .loop2 .x + 1)) (after c r m)
 done c m e = turn (row (cell c)) (cell c .loop2 .x) (state (cell c) m) (c .before .before .before .before .loop2-test .taken) (cell c .loop2 .inv .3 m) (told c m e .0)
 
 -- the creature that goes is one of the slots
@@ -112,8 +145,12 @@ loop-less c = omega arith
 
 loop-again : tie.Need-loop-again Inv-loop2 μ-loop2 Inv-loop μ-loop
 loop-again c =
-    let k = c .before .before .before .before in
-    (omega (arith, k .loop .inv .0), k .loop .inv .1, λ m. row-passed (k .loop .y - 1) (row-state k m) (c .before .quiet .ensures (c .if1 .taken)) (row-begins (k .loop .y) (row-state k m) (c .before .before .before .loop-test .taken) (k .loop .inv .2 m)))
+    let k = c .before .before .before .before in (
+      omega (arith, k .loop .inv .0),
+      k .loop .inv .1,
+      λ m. row-passed (k .loop .y - 1) (row-state k m) (c .before .quiet .ensures (c .if1 .taken))
+          (row-begins (k .loop .y) (row-state k m) (c .before .before .before .loop-test .taken) (k .loop .inv .2 m)),
+    )
 
 loop2-holds : tie.Need-loop2-holds Inv-loop2 μ-loop2 Inv-loop μ-loop
 loop2-holds c =
@@ -126,20 +163,27 @@ loop-less-2 c = omega (arith, c .before .before .before .before .before .loop-te
 loop-again-2 : tie.Need-loop-again-2 Inv-loop2 μ-loop2 Inv-loop μ-loop
 loop-again-2 c =
     let k = c .before in
-    let o = at-row k in
-    (omega (arith, k .loop2 .inv .1), k .loop2 .inv .2, λ m. onwards (row-begins (o .loop .y) (row-state o m) (k .before .before .before .before .loop-test .taken) (o .loop .inv .2 m) .same) (row-ends (row k) (k .loop2 .x) (state k m) (c .loop2-test .left) (k .loop2 .inv .3 m)))
+    let o = at-row k in (
+      omega (arith, k .loop2 .inv .1),
+      k .loop2 .inv .2,
+      λ m. onwards (row-begins (o .loop .y) (row-state o m) (k .before .before .before .before .loop-test .taken) (o .loop .inv .2 m) .same)
+          (row-ends (row k) (k .loop2 .x) (state k m) (c .loop2-test .left) (k .loop2 .inv .3 m)),
+    )
 
 cell-fall-requires : tie.Need-cell-fall-requires Inv-loop2 μ-loop2 Inv-loop μ-loop
 cell-fall-requires c κs =
     let k = c .before .before .before .before .loop2 in
     let d = k .inv .3 nothing in
-    record { here = record { cell = record { cells = d .sound .cells; across = c .before .before .before .loop2-test .taken; down = k .inv .1 }; marks = d .sound .marks }; slots = k .inv .2 .slots }
+    record {
+      here = record {
+        cell = record { cells = d .sound .cells; across = c .before .before .before .loop2-test .taken; down = k .inv .1 };
+        marks = d .sound .marks;
+      };
+      slots = k .inv .2 .slots;
+    }
 
 add-x : tie.Need-add-x Inv-loop2 μ-loop2 Inv-loop μ-loop
 add-x c = omega arith
-
-enum-told : tie.Need-enum-told Inv-loop2 μ-loop2 Inv-loop μ-loop
-enum-told c = search needs
 
 loop2-less : tie.Need-loop2-less Inv-loop2 μ-loop2 Inv-loop μ-loop
 loop2-less c = omega arith
@@ -149,9 +193,6 @@ loop2-again c =
     let f = c .before .before in
     let i = cell f .loop2 .inv in
     (omega arith, i .1, i .2, λ m. done f m (c .enum-told .given .1))
-
-enum-told-2 : tie.Need-enum-told-2 Inv-loop2 μ-loop2 Inv-loop μ-loop
-enum-told-2 c = search needs
 
 add-coins : tie.Need-add-coins Inv-loop2 μ-loop2 Inv-loop μ-loop
 add-coins c =
@@ -167,9 +208,6 @@ loop2-again-2 c =
     let i = cell f .loop2 .inv in
     (omega arith, i .1, i .2, λ m. done f m (c .enum-told2 .given .1))
 
-enum-told-3 : tie.Need-enum-told-3 Inv-loop2 μ-loop2 Inv-loop μ-loop
-enum-told-3 c = search needs
-
 loop2-less-3 : tie.Need-loop2-less-3 Inv-loop2 μ-loop2 Inv-loop μ-loop
 loop2-less-3 c = omega arith
 
@@ -178,9 +216,6 @@ loop2-again-3 c =
     let f = c .before .before in
     let i = cell f .loop2 .inv in
     (omega arith, i .1, i .2, λ m. done f m (c .enum-told3 .given .1))
-
-enum-known-fell : tie.Need-enum-known-fell Inv-loop2 μ-loop2 Inv-loop μ-loop
-enum-known-fell c = search needs
 
 sub-count : tie.Need-sub-count Inv-loop2 μ-loop2 Inv-loop μ-loop
 sub-count c = omega (arith, told (c .before .before .before) nothing (c .before .fell .given .1) .1)
@@ -203,7 +238,9 @@ loop2-less-4 c = let f = c .before .before .before .before .before .before .befo
 -- a creature is squashed
 squashed : (f : Called) {i : ℕ} → f .cell-fall .result ≡ Squashed i → (m : Mine)
     → During (cellsLeft (row (cell f)) 0 (row-state (at-row (cell f)) m)) (cellsLeft (row (cell f)) (cell f .loop2 .x + 1))
-    (whole m (state (cell f) m .px) (state (cell f) m .py) (f .cell-fall .last .0) (f .cell-fall .last .1 .0) (joined (cell f .loop2 .count - 1) (left (cell f .loop2 .spots) i (cell f .loop2 .count - 1) AREA) (left (cell f .loop2 .dirs) i (cell f .loop2 .count - 1) 0)) (numbers (cell f .loop2 .count - 1) (cell f .loop2 .coins) (cell f .loop2 .dead)))
+    (whole m (state (cell f) m .px) (state (cell f) m .py) (f .cell-fall .last .0) (f .cell-fall .last .1 .0)
+    (joined (cell f .loop2 .count - 1) (left (cell f .loop2 .spots) i (cell f .loop2 .count - 1) AREA) (left (cell f .loop2 .dirs) i (cell f .loop2 .count - 1) 0))
+    (numbers (cell f .loop2 .count - 1) (cell f .loop2 .coins) (cell f .loop2 .dead)))
 squashed f {i} e m = subst (During _ _) (without-one (cell f .loop2 .inv .2) i (told f m e .1) m _ _ _ _ _ _) (done f m e)
 
 loop2-again-4 : tie.Need-loop2-again-4 Inv-loop2 μ-loop2 Inv-loop μ-loop
@@ -240,17 +277,17 @@ gravity-on-spec =
     loop-again-2
     cell-fall-requires
     add-x
-    enum-told
+    (λ c. search needs)
     loop2-less
     loop2-again
-    enum-told-2
+    (λ c. search needs)
     add-coins
     loop2-less-2
     loop2-again-2
-    enum-told-3
+    (λ c. search needs)
     loop2-less-3
     loop2-again-3
-    enum-known-fell
+    (λ c. search needs)
     sub-count
     leave-spot-requires
     leave-dir-requires

@@ -25,9 +25,6 @@ play-requires c κs =
     let s = r .before .before .before in
     ready (s .args .m) (s .pre) (r .«parts-of» .ensures)
 
-turn-requires : tie.Need-turn-requires
-turn-requires c κs = search needs
-
 returns : tie.Need-returns
 returns c =
     let p = c .before .before .before in
@@ -37,12 +34,6 @@ returns c =
     c .turn .ensures
     ∙ after-quit (a .first) (a .second) (a .time) _ (c .before .if1 .taken)
     ∙ ap (afterKeys (a .first) (a .second) (a .time)) (keyed-state (a .m) (s .pre) (r .«parts-of» .ensures) (a .keys .now) (p .play .last .0) (p .play .result) (p .play .ensures))
-
-both-ticks-requires : tie.Need-both-ticks-requires
-both-ticks-requires c κs = search needs
-
-turn-requires-2 : tie.Need-turn-requires-2
-turn-requires-2 c κs = search needs
 
 returns-2 : tie.Need-returns-2
 returns-2 c =
@@ -70,13 +61,11 @@ enemies-if-requires c κs =
     let p = b .before .before .before in
     let r = p .before .before .before .before .before in
     let s = r .before .before .before in
-    walkers (s .args .m) (s .pre) (r .«parts-of» .ensures) (s .args .keys .now) (p .play .last .0) (p .play .result) (p .play .ensures) (b .«both-ticks» .result .one) _ _ _ _ _ (g .«gravity-if» .ensures)
+    walkers (s .args .m) (s .pre) (r .«parts-of» .ensures) (s .args .keys .now) (p .play .last .0) (p .play .result) (p .play .ensures)
+    (b .«both-ticks» .result .one) _ _ _ _ _ (g .«gravity-if» .ensures)
 
 enemies-of-requires : tie.Need-enemies-of-requires
 enemies-of-requires c κs = c .before .before .«enemies-if» .ensures .parts
-
-turn-requires-3 : tie.Need-turn-requires-3
-turn-requires-3 c κs = search needs
 
 returns-3 : tie.Need-returns-3
 returns-3 c =
@@ -93,7 +82,8 @@ returns-3 c =
     let one = b .«both-ticks» .result .one in
     let F = fallenGame (a .m) (s .pre) q keys (p .play .last .0) (p .play .result) (p .play .ensures) one _ _ _ _ _ (g .«gravity-if» .ensures) in
     let f = fallen-state (a .m) (s .pre) q keys (p .play .last .0) (p .play .result) (p .play .ensures) one _ _ _ _ _ (g .«gravity-if» .ensures) in
-    let y = ap (λ (es : List Enemy). deadIf (e .«enemies-if» .result) (standing F (F .grid) es (F .count) (F .px) (F .py))) (o .«enemies-of» .ensures) ∙ sym (e .«enemies-if» .ensures .does F) in
+    let y = ap (λ (es : List Enemy). deadIf (e .«enemies-if» .result) (standing F (F .grid) es (F .count) (F .px) (F .py))) (o .«enemies-of» .ensures)
+    ∙ sym (e .«enemies-if» .ensures .does F) in
     c .turn3 .ensures
     ∙ after-ticks (a .first) (a .second) (a .time) _ (b .before .if1 .left) (b .«both-ticks» .ensures) f y
     ∙ ap (afterKeys (a .first) (a .second) (a .time)) (keyed-state (a .m) (s .pre) q keys (p .play .last .0) (p .play .result) (p .play .ensures))
@@ -104,13 +94,13 @@ go-on-spec =
     (tie.spec
     parts-of-requires
     play-requires
-    turn-requires
+    (λ c κs. search needs)
     returns
-    both-ticks-requires
-    turn-requires-2
+    (λ c κs. search needs)
+    (λ c κs. search needs)
     returns-2
     gravity-if-requires
     enemies-if-requires
     enemies-of-requires
-    turn-requires-3
+    (λ c κs. search needs)
     returns-3)

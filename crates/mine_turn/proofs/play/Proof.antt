@@ -21,7 +21,8 @@ use Rattle.controls.specs.Keys.{KEY-QUIT}
 
 abbrev Inv-loop : tie.InvT-loop
 Inv-loop grid₀ spots keys to₀ i₀ grid to i =
-    (i ≤ length keys) × Ready grid spots to × ((f : List Bool) (es : List Enemy) (n : ℕ) → Spotted es n spots → played (playing f grid es n to) (drop i keys) ≡ played (playing f grid₀ es n to₀) keys)
+    (i ≤ length keys) × Ready grid spots to × ((f : List Bool) (es : List Enemy) (n : ℕ) → Spotted es n spots
+    → played (playing f grid es n to) (drop i keys) ≡ played (playing f grid₀ es n to₀) keys)
 
 abbrev μ-loop : tie.MeasureT-loop
 μ-loop grid₀ spots keys to₀ i₀ grid to i = length keys - i
@@ -55,7 +56,14 @@ loop-again c =
     let i = k .loop .i in
     let e = c .press .ensures in (
       omega arith,
-      record { marks = r .marks; them = r .them; many = r .many; slots = r .slots; spotted = r .spotted; formed = subst WellFormed (e (r .marks) (r .them) (r .many) (r .spotted)) (key-kept _ _ (r .formed) .formed) },
+      record {
+        marks = r .marks;
+        them = r .them;
+        many = r .many;
+        slots = r .slots;
+        spotted = r .spotted;
+        formed = subst WellFormed (e (r .marks) (r .them) (r .many) (r .spotted)) (key-kept _ _ (r .formed) .formed);
+      },
       λ f es n w. keys-turn _ keys i (drop-one keys i 0 (omega arith)) (k .loop .inv .2 f es n w) (ne-eqb _ KEY-QUIT (c .before .before .if1 .left)) (e f es n w),
     )
 

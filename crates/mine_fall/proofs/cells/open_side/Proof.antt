@@ -3,12 +3,6 @@ use borrow.Author.Needs.{needs}
 use Rattle.mine_fall.proofs.cells.open_side.Statement.{statement}
 use Rattle.mine_fall.proofs.cells.open_side.Tie as tie
 
-free-requires : tie.Need-free-requires
-free-requires c κs = search needs
-
-free-requires-2 : tie.Need-free-requires-2
-free-requires-2 c κs = search needs
-
 returns : tie.Need-returns
 returns c = simp (sym (c .before .before .free .ensures) ∙ c .before .if1 .taken) (c .free2 .ensures)
 
@@ -16,4 +10,4 @@ returns-2 : tie.Need-returns-2
 returns-2 c = simp (sym (c .before .free .ensures) ∙ c .if1 .left)
 
 pub open-side-spec : {M : Type 1} → statement M
-open-side-spec = tie.close (tie.spec free-requires free-requires-2 returns returns-2)
+open-side-spec = tie.close (tie.spec (λ c κs. search needs) (λ c κs. search needs) returns returns-2)

@@ -8,18 +8,6 @@ use Rattle.mine_fall.proofs.Lent.{on-player, off-player, found}
 use Rattle.mine_fall.proofs.cells.over_empty.Statement.{statement}
 use Rattle.mine_fall.proofs.cells.over_empty.Tie as tie
 
-add-by : tie.Need-add-by
-add-by c = search needs
-
-mul-at : tie.Need-mul-at
-mul-at c = search needs
-
-add-at : tie.Need-add-at
-add-at c = search needs
-
-over-player-requires : tie.Need-over-player-requires
-over-player-requires c κs = search needs
-
 returns : tie.Need-returns
 unfolding overEmpty
 returns c =
@@ -33,15 +21,6 @@ enemy-at-requires c κs =
     let h = a .pre .here .cell in
     record { slots = a .pre .slots; inside = omega (arith, h .across, h .down) }
 
-enum-known-k : tie.Need-enum-known-k
-enum-known-k c = search needs
-
-enum-told : tie.Need-enum-told
-enum-told c = search needs
-
-move-obj-requires : tie.Need-move-obj-requires
-move-obj-requires c κs = search needs
-
 returns-2 : tie.Need-returns-2
 unfolding overEmpty
 returns-2 c =
@@ -49,20 +28,9 @@ returns-2 c =
     let a = c .before .before .before .before .before .before .before in
     let h = a .pre .here .cell in
     let p = off-player s (a .args .x) (a .args .y + 1) (h .across) (c .before .before .before .before .before .before .if1 .left) in
-    let q = found s (a .args .x) (a .args .y + 1) (h .across) (h .down) (sym (c .before .before .before .before .before .enemy-at .ensures) ∙ c .before .before .before .enum-told .given .1) in
+    let q = found s (a .args .x) (a .args .y + 1) (h .across) (h .down)
+    (sym (c .before .before .before .before .before .enemy-at .ensures) ∙ c .before .before .before .enum-told .given .1) in
     simp (p, q) (c .move-obj .ensures m)
-
-mul-i : tie.Need-mul-i
-mul-i c = search needs
-
-add-i : tie.Need-add-i
-add-i c = search needs
-
-element-copy-out-if2 : tie.Need-element-copy-out-if2
-element-copy-out-if2 c = search needs
-
-move-obj-requires-2 : tie.Need-move-obj-requires-2
-move-obj-requires-2 c κs = search needs
 
 returns-3 : tie.Need-returns-3
 unfolding overEmpty overCreature without
@@ -76,9 +44,6 @@ returns-3 c =
     let q = found s (a .args .x) (a .args .y + 1) (h .across) (h .down) t in
     simp (p, q, c .before .before .before .if2 .taken) (c .move-obj2 .ensures (without m k) .0, spot-below m (s .spotted) (a .args .x) (a .args .y + 1) k _ (h .across) (h .down) t)
 
-element-write-falling : tie.Need-element-write-falling
-element-write-falling c = search needs
-
 returns-4 : tie.Need-returns-4
 unfolding overEmpty overCreature rested
 returns-4 c =
@@ -86,27 +51,28 @@ returns-4 c =
     let a = c .before .before .before .before .before .before .before in
     let h = a .pre .here .cell in
     let p = off-player s (a .args .x) (a .args .y + 1) (h .across) (c .before .before .before .before .before .before .if1 .left) in
-    let q = found s (a .args .x) (a .args .y + 1) (h .across) (h .down) (sym (c .before .before .before .before .before .enemy-at .ensures) ∙ c .before .before .before .k .given .1) in
+    let q = found s (a .args .x) (a .args .y + 1) (h .across) (h .down)
+    (sym (c .before .before .before .before .before .enemy-at .ensures) ∙ c .before .before .before .k .given .1) in
     simp (p, q, c .if2 .left) (refl, omega arith)
 
 pub over-empty-spec : {M : Type 1} → statement M
 over-empty-spec =
     tie.close
     (tie.spec
-    add-by
-    mul-at
-    add-at
-    over-player-requires
+    (λ c. search needs)
+    (λ c. search needs)
+    (λ c. search needs)
+    (λ c κs. search needs)
     returns
     enemy-at-requires
-    enum-known-k
-    enum-told
-    move-obj-requires
+    (λ c. search needs)
+    (λ c. search needs)
+    (λ c κs. search needs)
     returns-2
-    mul-i
-    add-i
-    element-copy-out-if2
-    move-obj-requires-2
+    (λ c. search needs)
+    (λ c. search needs)
+    (λ c. search needs)
+    (λ c κs. search needs)
     returns-3
-    element-write-falling
+    (λ c. search needs)
     returns-4)

@@ -6,24 +6,6 @@ use Rattle.mine_rules.specs.Gravity.{overPlayer, rested}
 use Rattle.mine_fall.proofs.cells.over_player.Statement.{statement}
 use Rattle.mine_fall.proofs.cells.over_player.Tie as tie
 
-mul-i : tie.Need-mul-i
-mul-i c = search needs
-
-add-i : tie.Need-add-i
-add-i c = search needs
-
-element-copy-out-marked : tie.Need-element-copy-out-marked
-element-copy-out-marked c = search needs
-
-element-write-falling : tie.Need-element-write-falling
-element-write-falling c = search needs
-
-element-copy-out-if2 : tie.Need-element-copy-out-if2
-element-copy-out-if2 c = search needs
-
-element-write-grid : tie.Need-element-write-grid
-element-write-grid c = search needs
-
 returns : tie.Need-returns
 unfolding overPlayer rested
 returns c = λ m. simp (c .before .before .if1 .taken, eq-eqb _ _ (c .if2 .taken)) (refl, omega arith)
@@ -40,12 +22,12 @@ pub over-player-spec : {M : Type 1} → statement M
 over-player-spec =
     tie.close
     (tie.spec
-    mul-i
-    add-i
-    element-copy-out-marked
-    element-write-falling
-    element-copy-out-if2
-    element-write-grid
+    (λ c. search needs)
+    (λ c. search needs)
+    (λ c. search needs)
+    (λ c. search needs)
+    (λ c. search needs)
+    (λ c. search needs)
     returns
     returns-2
     returns-3)

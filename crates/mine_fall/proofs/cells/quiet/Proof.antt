@@ -29,9 +29,6 @@ add-at c = omega (arith, c .before .before .pre .down)
 element-copy-out-is-object : tie.Need-element-copy-out-is-object Inv-loop μ-loop
 element-copy-out-is-object c = omega (arith, c .before .before .pre .cells, c .before .before .pre .down)
 
-is-object-requires : tie.Need-is-object-requires Inv-loop μ-loop
-is-object-requires c κs = search needs
-
 add-x : tie.Need-add-x Inv-loop μ-loop
 add-x c = omega arith
 
@@ -60,7 +57,7 @@ quiet-spec =
     mul-at
     add-at
     element-copy-out-is-object
-    is-object-requires
+    (λ c κs. search needs)
     add-x
     loop-less
     loop-again

@@ -22,7 +22,8 @@ use Rattle.mine_fall.proofs.cells.open_side.Reads as open-side-reads
 abbrev Past : Type 0
 Past = lts.Joined1 (open-side-reads.Asked, open-side-reads.Learnt, move-obj-reads.Asked, move-obj-reads.Learnt) reads.Pre reads.Post
 
-not-left : (c : Past) (m : Mine) → Stand m (c .before .args .spots .now) (c .before .args .player) → (ltb 0 (c .before .args .x) && openSide (lent m (c .before .args .grid .now) (c .before .args .falling .now)) (c .before .args .x - 1) (c .before .args .y)) ≡ false
+not-left : (c : Past) (m : Mine) → Stand m (c .before .args .spots .now) (c .before .args .player)
+    → (ltb 0 (c .before .args .x) && openSide (lent m (c .before .args .grid .now) (c .before .args .falling .now)) (c .before .args .x - 1) (c .before .args .y)) ≡ false
 not-left c m s =
     let a = c .before in
     ⊎-elim
@@ -30,42 +31,20 @@ not-left c m s =
     (λ w. simp (le-ltb _ _ (w .left)))
     (c .if1 .came)
 
-add-by : tie.Need-add-by
-add-by c = search needs
-
-sub-open-side : tie.Need-sub-open-side
-sub-open-side c = search needs
-
-open-side-requires : tie.Need-open-side-requires
-open-side-requires c κs = search needs
-
-sub-move-obj : tie.Need-sub-move-obj
-sub-move-obj c = search needs
-
-move-obj-requires : tie.Need-move-obj-requires
-move-obj-requires c κs = search needs
-
 returns : tie.Need-returns
 unfolding rolled
 returns c =
     λ m s.
     let a = c .before .before .before .before .before .before .before in
-    let o = is-open s (a .args .grid .now) (a .args .falling .now) (a .args .x - 1) (a .args .y) (sym (c .before .before .before .before .open-side .ensures) ∙ c .before .before .before .if2 .taken) in
+    let o = is-open s (a .args .grid .now) (a .args .falling .now) (a .args .x - 1) (a .args .y)
+    (sym (c .before .before .before .before .open-side .ensures) ∙ c .before .before .before .if2 .taken) in
     simp (lt-ltb _ _ (c .before .before .before .before .before .before .if1 .taken), o) (c .move-obj .ensures m)
-
-add-open-side : tie.Need-add-open-side
-add-open-side c = search needs
-
-open-side-requires-2 : tie.Need-open-side-requires-2
-open-side-requires-2 c κs = search needs
-
-add-move-obj : tie.Need-add-move-obj
-add-move-obj c = search needs
 
 move-obj-requires-2 : tie.Need-move-obj-requires-2
 move-obj-requires-2 c κs =
     let a = c .before .before .before .before .before .before in
-    let h = open-inside (a .args .grid .now) (a .args .spots .now) (a .args .player) (a .args .x + 1) (a .args .y) (a .args .y + 1) (sym (c .before .before .before .open-side2 .ensures) ∙ c .before .before .if3 .taken) in
+    let h = open-inside (a .args .grid .now) (a .args .spots .now) (a .args .player) (a .args .x + 1) (a .args .y) (a .args .y + 1)
+    (sym (c .before .before .before .open-side2 .ensures) ∙ c .before .before .if3 .taken) in
     search needs
 
 returns-2 : tie.Need-returns-2
@@ -73,7 +52,8 @@ unfolding rolled
 returns-2 c =
     λ m s.
     let a = c .before .before .before .before .before .before .before in
-    let o = is-open s (a .args .grid .now) (a .args .falling .now) (a .args .x + 1) (a .args .y) (sym (c .before .before .before .before .open-side2 .ensures) ∙ c .before .before .before .if3 .taken) in
+    let o = is-open s (a .args .grid .now) (a .args .falling .now) (a .args .x + 1) (a .args .y)
+    (sym (c .before .before .before .before .open-side2 .ensures) ∙ c .before .before .before .if3 .taken) in
     simp (not-left (c .before .before .before .before .before .before) m s, o) (c .move-obj2 .ensures m)
 
 returns-3 : tie.Need-returns-3
@@ -88,15 +68,15 @@ pub roll-spec : {M : Type 1} → statement M
 roll-spec =
     tie.close
     (tie.spec
-    add-by
-    sub-open-side
-    open-side-requires
-    sub-move-obj
-    move-obj-requires
+    (λ c. search needs)
+    (λ c. search needs)
+    (λ c κs. search needs)
+    (λ c. search needs)
+    (λ c κs. search needs)
     returns
-    add-open-side
-    open-side-requires-2
-    add-move-obj
+    (λ c. search needs)
+    (λ c κs. search needs)
+    (λ c. search needs)
     move-obj-requires-2
     returns-2
     returns-3)

@@ -3,12 +3,9 @@ use Rattle.mine_rules.specs.Load.{loaded}
 use Rattle.mine_moves.proofs.level.load.Statement.{statement}
 use Rattle.mine_moves.proofs.level.load.Tie as tie
 
-mine-of-requires : tie.Need-mine-of-requires
-mine-of-requires c κs = search needs
-
 returns : tie.Need-returns
 unfolding loaded
 returns c = c .mine-of .ensures
 
 pub load-spec : {M : Type 1} → statement M
-load-spec = tie.close (tie.spec mine-of-requires returns)
+load-spec = tie.close (tie.spec (λ c κs. search needs) returns)

@@ -19,9 +19,6 @@ Inv-loop text grid px₀ py₀ enemies₀ count₀ i₀ px py enemies count i =
 abbrev μ-loop : tie.MeasureT-loop
 μ-loop text grid px₀ py₀ enemies₀ count₀ i₀ px py enemies count i = AREA - i
 
-tiles-of-requires : tie.Need-tiles-of-requires Inv-loop μ-loop
-tiles-of-requires c κs = search needs
-
 loop-holds : tie.Need-loop-holds Inv-loop μ-loop
 loop-holds c = (omega arith, ap (λ (g : List ℕ). readFrom (c .before .args .text .now) 0 (withGrid unread g)) (sym (table-none _ _)))
 
@@ -37,7 +34,9 @@ loop-less c = omega arith
 loop-again : tie.Need-loop-again Inv-loop μ-loop
 loop-again c =
     let k = c .before .before .before in
-    (omega arith, read-player (k .before .before .args .text .now) (k .loop .i) (k .loop .px) (k .loop .py) (k .loop .enemies) (k .loop .count) (k .loop .inv .1) (omega arith) (c .match .keys1))
+    let s = k .loop in
+    let text = k .before .before .args .text .now in
+    (omega arith, read-player text (s .i) (s .px) (s .py) (s .enemies) (s .count) (s .inv .1) (omega arith) (c .match .keys1))
 
 mul-enemies : tie.Need-mul-enemies Inv-loop μ-loop
 mul-enemies c = omega arith
@@ -54,7 +53,9 @@ loop-less-2 c = omega arith
 loop-again-2 : tie.Need-loop-again-2 Inv-loop μ-loop
 loop-again-2 c =
     let k = c .before .before .before .before in
-    (omega arith, read-creature (k .before .before .args .text .now) (k .loop .i) (k .loop .px) (k .loop .py) (k .loop .enemies) (k .loop .count) (k .loop .inv .1) (omega arith) (c .before .match .keys2) (simp (lt-ltb _ _ (c .if1 .taken))))
+    let s = k .loop in
+    let text = k .before .before .args .text .now in
+    (omega arith, read-creature text (s .i) (s .px) (s .py) (s .enemies) (s .count) (s .inv .1) (omega arith) (c .before .match .keys2) (simp (lt-ltb _ _ (c .if1 .taken))))
 
 loop-less-3 : tie.Need-loop-less-3 Inv-loop μ-loop
 loop-less-3 c = omega arith
@@ -62,7 +63,9 @@ loop-less-3 c = omega arith
 loop-again-3 : tie.Need-loop-again-3 Inv-loop μ-loop
 loop-again-3 c =
     let k = c .before .before .before .before in
-    (omega arith, read-creature (k .before .before .args .text .now) (k .loop .i) (k .loop .px) (k .loop .py) (k .loop .enemies) (k .loop .count) (k .loop .inv .1) (omega arith) (c .before .match .keys2) (simp (le-ltb _ _ (c .if1 .left))))
+    let s = k .loop in
+    let text = k .before .before .args .text .now in
+    (omega arith, read-creature text (s .i) (s .px) (s .py) (s .enemies) (s .count) (s .inv .1) (omega arith) (c .before .match .keys2) (simp (le-ltb _ _ (c .if1 .left))))
 
 loop-less-4 : tie.Need-loop-less-4 Inv-loop μ-loop
 loop-less-4 c = omega arith
@@ -70,30 +73,27 @@ loop-less-4 c = omega arith
 loop-again-4 : tie.Need-loop-again-4 Inv-loop μ-loop
 loop-again-4 c =
     let k = c .before .before .before in
-    (omega arith, read-tile (k .before .before .args .text .now) (k .loop .i) (k .loop .px) (k .loop .py) (k .loop .enemies) (k .loop .count) (k .loop .inv .1) (omega arith) (c .match .rest .0 .1) (c .match .rest .1))
-
-coin-count-requires : tie.Need-coin-count-requires Inv-loop μ-loop
-coin-count-requires c κs = search needs
-
-cast-asked : tie.Need-cast-asked Inv-loop μ-loop
-cast-asked c = search needs
-
-mul-asked : tie.Need-mul-asked Inv-loop μ-loop
-mul-asked c = search needs
+    let s = k .loop in
+    let text = k .before .before .args .text .now in
+    (omega arith, read-tile text (s .i) (s .px) (s .py) (s .enemies) (s .count) (s .inv .1) (omega arith) (c .match .rest .0 .1) (c .match .rest .1))
 
 returns : tie.Need-returns Inv-loop μ-loop
 returns c =
     let n = c .before in
     let k = n .before .before .before in
-    let e = read-done (k .before .before .args .text .now) (k .loop .i) (k .loop .px) (k .loop .py) (k .loop .enemies) (k .loop .count) (k .loop .inv .1) (omega arith) (k .before .tiles-of .ensures) in
-    asked (k .before .before .args .text .now) _ (n .coin-count .result) _ e (n .coin-count .ensures .0) (simp (eq-eqb _ _ (c .if2 .taken)))
+    let s = k .loop in
+    let text = k .before .before .args .text .now in
+    let e = read-done text (s .i) (s .px) (s .py) (s .enemies) (s .count) (s .inv .1) (omega arith) (k .before .tiles-of .ensures) in
+    asked text _ (n .coin-count .result) _ e (n .coin-count .ensures .0) (simp (eq-eqb _ _ (c .if2 .taken)))
 
 returns-2 : tie.Need-returns-2 Inv-loop μ-loop
 returns-2 c =
     let n = c .before in
     let k = n .before .before .before in
-    let e = read-done (k .before .before .args .text .now) (k .loop .i) (k .loop .px) (k .loop .py) (k .loop .enemies) (k .loop .count) (k .loop .inv .1) (omega arith) (k .before .tiles-of .ensures) in
-    asked (k .before .before .args .text .now) _ (n .coin-count .result) _ e (n .coin-count .ensures .0) (simp (ne-eqb _ _ (c .if2 .left)))
+    let s = k .loop in
+    let text = k .before .before .args .text .now in
+    let e = read-done text (s .i) (s .px) (s .py) (s .enemies) (s .count) (s .inv .1) (omega arith) (k .before .tiles-of .ensures) in
+    asked text _ (n .coin-count .result) _ e (n .coin-count .ensures .0) (simp (ne-eqb _ _ (c .if2 .left)))
 
 pub mine-of-spec : {M : Type 1} → statement M
 mine-of-spec =
@@ -101,7 +101,7 @@ mine-of-spec =
     (tie.spec
     Inv-loop
     μ-loop
-    tiles-of-requires
+    (λ c κs. search needs)
     loop-holds
     element-copy-out-c
     add-i
@@ -116,8 +116,8 @@ mine-of-spec =
     loop-again-3
     loop-less-4
     loop-again-4
-    coin-count-requires
-    cast-asked
-    mul-asked
+    (λ c κs. search needs)
+    (λ c. search needs)
+    (λ c. search needs)
     returns
     returns-2)

@@ -29,7 +29,16 @@ returns-8 c = rw (c .match .keys8)
 returns-9 : tie.Need-returns-9
 returns-9 c =
     let n = c .match .rest in
-    simp (ne-eqb _ _ (n .0 .0 .0 .0 .0 .0 .0 .1), ne-eqb _ _ (n .0 .0 .0 .0 .0 .0 .1), ne-eqb _ _ (n .0 .0 .0 .0 .0 .1), ne-eqb _ _ (n .0 .0 .0 .0 .1), ne-eqb _ _ (n .0 .0 .0 .1), ne-eqb _ _ (n .0 .0 .1), ne-eqb _ _ (n .0 .1), ne-eqb _ _ (n .1))
+    simp (
+      ne-eqb _ _ (n .0 .0 .0 .0 .0 .0 .0 .1),
+      ne-eqb _ _ (n .0 .0 .0 .0 .0 .0 .1),
+      ne-eqb _ _ (n .0 .0 .0 .0 .0 .1),
+      ne-eqb _ _ (n .0 .0 .0 .0 .1),
+      ne-eqb _ _ (n .0 .0 .0 .1),
+      ne-eqb _ _ (n .0 .0 .1),
+      ne-eqb _ _ (n .0 .1),
+      ne-eqb _ _ (n .1),
+    )
 
 pub tile-of-spec : {M : Type 1} → statement M
 tile-of-spec =

@@ -31,18 +31,15 @@ there b =
 next-cell-requires : tie.Need-next-cell-requires
 next-cell-requires c κs = c .pre .inside .home
 
-enum-known-x : tie.Need-enum-known-x
-enum-known-x c = search needs
-
-enum-told : tie.Need-enum-told
-enum-told c = search needs
-
 returns : tie.Need-returns
 unfolding moved
 returns c =
     let n = c .before .before in
-    let a = n .before in
-    (λ m p. stayed p ∙ simp (ap (λ (t : Move). nextCell (a .args .dir) (t .player .px) (t .player .py)) (sym (p .stays)) ∙ sym (n .next-cell .ensures) ∙ c .enum-told .given .1), a .pre .inside)
+    let a = n .before in (
+      λ m p. stayed p ∙ simp (ap (λ (t : Move). nextCell (a .args .dir) (t .player .px) (t .player .py)) (sym (p .stays)) ∙ sym (n .next-cell .ensures)
+          ∙ c .enum-told .given .1),
+      a .pre .inside,
+    )
 
 mul-enemy-at : tie.Need-mul-enemy-at
 mul-enemy-at c = omega (arith, there (c .before) .down)
@@ -55,9 +52,6 @@ enemy-at-requires c κs =
     let b = c .before in
     record { slots = b .before .before .before .pre .lent .slots; inside = let t = there b in omega (arith, t .across, t .down) }
 
-enum-told-2 : tie.Need-enum-told-2
-enum-told-2 c = search needs
-
 returns-2 : tie.Need-returns-2
 unfolding moved
 returns-2 c =
@@ -65,11 +59,14 @@ returns-2 c =
     let f = t .before .before in
     let b = f .before .before in
     let n = b .before .before in
-    let a = n .before in
-    (λ m p. died p ∙ simp (ap (λ (t : Move). nextCell (a .args .dir) (t .player .px) (t .player .py)) (sym (p .stays)) ∙ sym (n .next-cell .ensures) ∙ b .x .given .1, sym (asked p _ _ (there b)) ∙ sym (f .enemy-at .ensures) ∙ t .enum-told2 .given .1), record { cell = a .pre .inside .cell; home = a .pre .inside .home })
-
-enum-told-3 : tie.Need-enum-told-3
-enum-told-3 c = search needs
+    let a = n .before in (
+      λ m p. died p ∙ simp (
+        ap (λ (t : Move). nextCell (a .args .dir) (t .player .px) (t .player .py)) (sym (p .stays)) ∙ sym (n .next-cell .ensures)
+            ∙ b .x .given .1,
+        sym (asked p _ _ (there b)) ∙ sym (f .enemy-at .ensures) ∙ t .enum-told2 .given .1,
+      ),
+      record { cell = a .pre .inside .cell; home = a .pre .inside .home },
+    )
 
 meet-requires : tie.Need-meet-requires
 meet-requires c κs =
@@ -82,22 +79,28 @@ returns-3 c =
     let f = c .before .before .before in
     let b = f .before .before in
     let n = b .before .before in
-    let a = n .before in
-    (λ m p. c .meet .ensures .0 m p ∙ simp (ap (λ (t : Move). nextCell (a .args .dir) (t .player .px) (t .player .py)) (sym (p .stays)) ∙ sym (n .next-cell .ensures) ∙ b .x .given .1, sym (asked p _ _ (there b)) ∙ sym (f .enemy-at .ensures) ∙ c .before .enum-told3 .given .1), c .meet .ensures .1)
+    let a = n .before in (
+      λ m p. c .meet .ensures .0 m p ∙ simp (
+        ap (λ (t : Move). nextCell (a .args .dir) (t .player .px) (t .player .py)) (sym (p .stays)) ∙ sym (n .next-cell .ensures)
+            ∙ b .x .given .1,
+        sym (asked p _ _ (there b)) ∙ sym (f .enemy-at .ensures) ∙ c .before .enum-told3 .given .1,
+      ),
+      c .meet .ensures .1,
+    )
 
 pub decide-spec : {M : Type 1} → statement M
 decide-spec =
     tie.close
     (tie.spec
     next-cell-requires
-    enum-known-x
-    enum-told
+    (λ c. search needs)
+    (λ c. search needs)
     returns
     mul-enemy-at
     add-enemy-at
     enemy-at-requires
-    enum-told-2
+    (λ c. search needs)
     returns-2
-    enum-told-3
+    (λ c. search needs)
     meet-requires
     returns-3)

@@ -31,15 +31,6 @@ unfolding pushed
 returns c =
     (λ m p. stayed p ∙ simp (not-true (sideways (c .before .args .dir)) (c .if1 .taken)), c .before .pre .lends .inside)
 
-next-cell-requires : tie.Need-next-cell-requires
-next-cell-requires c κs = search needs
-
-enum-known-bx : tie.Need-enum-known-bx
-enum-known-bx c = search needs
-
-enum-told : tie.Need-enum-told
-enum-told c = search needs
-
 returns-2 : tie.Need-returns-2
 unfolding pushed
 returns-2 c =
@@ -47,20 +38,21 @@ returns-2 c =
     let s = n .before .before in
     (λ m p. stayed p ∙ simp (not-false (sideways (s .args .dir)) (n .before .if1 .left), sym (n .next-cell .ensures) ∙ c .enum-told .given .1), s .pre .lends .inside)
 
-free-requires : tie.Need-free-requires
-free-requires c κs = search needs
-
 returns-3 : tie.Need-returns-3
 unfolding pushed
 returns-3 c =
     let f = c .before in
     let b = f .before .before in
     let n = b .before .before in
-    let s = n .before .before in
-    (λ m p. stayed p ∙ simp (not-false (sideways (s .args .dir)) (n .before .if1 .left), sym (n .next-cell .ensures) ∙ b .bx .given .1, freed p (b .bx .given .0 .0) (b .bx .given .0 .1 .0) ∙ sym (f .free .ensures) ∙ not-true (f .free .result) (c .if2 .taken)), s .pre .lends .inside)
-
-go-requires : tie.Need-go-requires
-go-requires c κs = search needs
+    let s = n .before .before in (
+      λ m p. stayed p ∙ simp (
+        not-false (sideways (s .args .dir)) (n .before .if1 .left),
+        sym (n .next-cell .ensures)
+            ∙ b .bx .given .1,
+        freed p (b .bx .given .0 .0) (b .bx .given .0 .1 .0) ∙ sym (f .free .ensures) ∙ not-true (f .free .result) (c .if2 .taken),
+      ),
+      s .pre .lends .inside,
+    )
 
 mul-to : tie.Need-mul-to
 mul-to c = omega (arith, behind (c .before .before) .down)
@@ -86,13 +78,13 @@ push-spec =
     tie.close
     (tie.spec
     returns
-    next-cell-requires
-    enum-known-bx
-    enum-told
+    (λ c κs. search needs)
+    (λ c. search needs)
+    (λ c. search needs)
     returns-2
-    free-requires
+    (λ c κs. search needs)
     returns-3
-    go-requires
+    (λ c κs. search needs)
     mul-to
     add-to
     returns-4)

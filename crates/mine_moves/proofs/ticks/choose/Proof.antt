@@ -30,20 +30,11 @@ add-dir c =
     let k = c .before .before in
     omega (arith, turn-fits (3 ∷ 0 ∷ 1 ∷ 2 ∷ []) (k .before .args .e .dir) (k .loop .i) refl (map-dir (k .before .args .e) (k .before .pre .placed)))
 
-way-requires : tie.Need-way-requires Inv-loop μ-loop
-way-requires c κs = search needs
-
-enum-known-to : tie.Need-enum-known-to Inv-loop μ-loop
-enum-known-to c = search needs
-
 returns : tie.Need-returns Inv-loop μ-loop
 returns c =
     let w = c .before .before .before in
     let k = w .before .before .before in
     λ m g s. chosen-goes m (k .before .args .e) (k .loop .i) (w .before .before .loop-test .taken) (sym (w .way .ensures m g s) ∙ c .before .to .given .1) (k .loop .inv .1 m g s)
-
-enum-told : tie.Need-enum-told Inv-loop μ-loop
-enum-told c = search needs
 
 add-i : tie.Need-add-i Inv-loop μ-loop
 add-i c = omega arith
@@ -54,8 +45,11 @@ loop-less c = omega arith
 loop-again : tie.Need-loop-again Inv-loop μ-loop
 loop-again c =
     let w = c .before .before in
-    let k = w .before .before .before in
-    (omega arith, λ m g s. chosen-more m (k .before .args .e) (k .loop .i) (w .before .before .loop-test .taken) (sym (w .way .ensures m g s) ∙ c .enum-told .given .1) (k .loop .inv .1 m g s))
+    let k = w .before .before .before in (
+      omega arith,
+      λ m g s. chosen-more m (k .before .args .e) (k .loop .i) (w .before .before .loop-test .taken) (sym (w .way .ensures m g s) ∙ c .enum-told .given .1)
+          (k .loop .inv .1 m g s),
+    )
 
 returns-2 : tie.Need-returns-2 Inv-loop μ-loop
 returns-2 c =
@@ -71,10 +65,10 @@ choose-spec =
     loop-holds
     array-read-turn
     add-dir
-    way-requires
-    enum-known-to
+    (λ c κs. search needs)
+    (λ c. search needs)
     returns
-    enum-told
+    (λ c. search needs)
     add-i
     loop-less
     loop-again

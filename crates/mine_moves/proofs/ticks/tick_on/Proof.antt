@@ -38,7 +38,8 @@ turn f = f .before .before .before .before .before
 its : (f : Chosen) → turn f .loop .i < turn f .before .args .count
 its f = f .before .before .before .before .loop-test .taken
 
-steps : (f : Chosen) {r : Step} → f .choose .result ≡ r → (m : Mine) → chosen (state (turn f .loop .i) (turn f .loop .inv .1) m) (here (turn f .loop .i) (turn f .loop .inv .1)) turns ≡ r
+steps : (f : Chosen) {r : Step} → f .choose .result ≡ r → (m : Mine)
+    → chosen (state (turn f .loop .i) (turn f .loop .inv .1) m) (here (turn f .loop .i) (turn f .loop .inv .1)) turns ≡ r
 steps f e m =
     let k = turn f in
     sym (f .choose .ensures (state (k .loop .i) (k .loop .inv .1) m) refl (k .loop .inv .1 .parts .spotted)) ∙ e
@@ -73,9 +74,6 @@ choose-requires c κs =
       lent = record { cells = k .before .pre .cells; slots = d .parts .slots };
       placed = here-on-map (k .loop .i) d (c .before .before .before .loop-test .taken);
     }
-
-enum-known-to : tie.Need-enum-known-to Inv-loop μ-loop
-enum-known-to c = search needs
 
 mul-place : tie.Need-mul-place Inv-loop μ-loop
 mul-place c = let t = c .before .before in omega (arith, goal (t .before .before) (t .to .given .1))
@@ -123,9 +121,6 @@ loop-again-2 c =
     let k = turn f in
     (omega (arith, its f), walks (k .loop .i) (k .loop .inv .1) (its f) (t .to .given .0 .0) (steps f (t .to .given .1)) (c .if1 .left))
 
-enum-told : tie.Need-enum-told Inv-loop μ-loop
-enum-told c = search needs
-
 loop-less-3 : tie.Need-loop-less-3 Inv-loop μ-loop
 loop-less-3 c = omega (arith, its (c .before .before))
 
@@ -153,7 +148,7 @@ tick-on-spec =
     element-copy-out-t22
     add-i
     choose-requires
-    enum-known-to
+    (λ c. search needs)
     mul-place
     add-place
     cast-spots
@@ -164,7 +159,7 @@ tick-on-spec =
     loop-again
     loop-less-2
     loop-again-2
-    enum-told
+    (λ c. search needs)
     loop-less-3
     loop-again-3
     returns)

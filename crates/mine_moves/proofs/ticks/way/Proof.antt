@@ -31,12 +31,6 @@ there b =
 next-cell-requires : tie.Need-next-cell-requires
 next-cell-requires c κs = let i = map-inside (c .args .e) (c .pre .placed) in record { across = i .0; down = i .1 }
 
-enum-known-nx : tie.Need-enum-known-nx
-enum-known-nx c = search needs
-
-enum-told : tie.Need-enum-told
-enum-told c = search needs
-
 returns : tie.Need-returns
 unfolding wayOf
 returns c = λ m g s. simp (sym (c .before .before .next-cell .ensures) ∙ c .enum-told .given .1)
@@ -65,9 +59,6 @@ enemy-at-requires c κs =
     let b = c .before .before .before in
     record { slots = b .before .before .before .pre .lent .slots; inside = let t = there b in omega (arith, t .across, t .down) }
 
-enum-told-2 : tie.Need-enum-told-2
-enum-told-2 c = search needs
-
 returns-3 : tie.Need-returns-3
 unfolding wayOf
 returns-3 c =
@@ -77,9 +68,6 @@ returns-3 c =
     λ m g s. simp (sym (n .next-cell .ensures) ∙ b .nx .given .1)
     (goes-met m g s (n .before .args .dir) (b .nx .given .0 .0) (b .nx .given .0 .1 .0) (there b)
     (sym (f .before .before .at .ensures) ∙ f .before .if1 .left) (sym (f .enemy-at .ensures) ∙ c .enum-told2 .given .1))
-
-enum-told-3 : tie.Need-enum-told-3
-enum-told-3 c = search needs
 
 returns-4 : tie.Need-returns-4
 unfolding wayOf
@@ -96,15 +84,15 @@ way-spec =
     tie.close
     (tie.spec
     next-cell-requires
-    enum-known-nx
-    enum-told
+    (λ c. search needs)
+    (λ c. search needs)
     returns
     at-requires
     returns-2
     mul-enemy-at
     add-enemy-at
     enemy-at-requires
-    enum-told-2
+    (λ c. search needs)
     returns-3
-    enum-told-3
+    (λ c. search needs)
     returns-4)

@@ -6,24 +6,6 @@ use borrow.Author.Needs.{needs}
 use Rattle.mine_moves.proofs.ways.next_cell.Statement.{statement}
 use Rattle.mine_moves.proofs.ways.next_cell.Tie as tie
 
-sub-t7 : tie.Need-sub-t7
-sub-t7 c = search needs
-
-add-if2 : tie.Need-add-if2
-add-if2 c = search needs
-
-add-t11 : tie.Need-add-t11
-add-t11 c = search needs
-
-add-if3 : tie.Need-add-if3
-add-if3 c = search needs
-
-add-t15 : tie.Need-add-t15
-add-t15 c = search needs
-
-sub-t18 : tie.Need-sub-t18
-sub-t18 c = search needs
-
 returns : tie.Need-returns
 unfolding nextCell
 returns c = simp (c .before .match .keys1, lt-ltb _ _ (c .if1 .taken))
@@ -60,12 +42,12 @@ pub next-cell-spec : {M : Type 1} → statement M
 next-cell-spec =
     tie.close
     (tie.spec
-    sub-t7
-    add-if2
-    add-t11
-    add-if3
-    add-t15
-    sub-t18
+    (λ c. search needs)
+    (λ c. search needs)
+    (λ c. search needs)
+    (λ c. search needs)
+    (λ c. search needs)
+    (λ c. search needs)
     returns
     returns-2
     returns-3

@@ -1,3 +1,4 @@
+-- `mine_state::coin_count` meets its contract. Assumes nothing.
 use mathlib.Core.Path.{_≡_, refl}
 use Prim.Native.Nat.{_≤_, _<_, _+_, _-_}
 use native.Mathlib.Omega.{arith}
@@ -5,10 +6,10 @@ use lib.ListN.{length, getD, take, drop, length-drop}
 use lib.Seq.{getD-drop}
 use borrow.Author.Needs.{needs}
 use Rattle.laws.specs.Lists.{count}
 use Rattle.mine_state.specs.State.{isCoin}
-use Rattle.mine_check.proofs.Coins.{HALF, flag-small, coins-more, halves}
-use Rattle.mine_check.proofs.coin_count.Statement.{statement}
-use Rattle.mine_check.proofs.coin_count.Tie as tie
+use Rattle.mine_state.proofs.Coins.{HALF, flag-small, coins-more, halves}
+use Rattle.mine_state.proofs.coin_count.Statement.{statement}
+use Rattle.mine_state.proofs.coin_count.Tie as tie
 
 abbrev Inv-loop : tie.InvT-loop
 Inv-loop grid upper₀ lower₀ i₀ upper lower i =
