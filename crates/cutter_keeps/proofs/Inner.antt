@@ -41,6 +41,7 @@ claimed-least c w =
     let l : length freshGrid ≡ length (c .grid) = ground .cells ∙ sym (w .cells) in
     let filled : (i : ℕ) → i < length freshGrid → claimedAt freshGrid i ≡ true → claimedAt (c .grid) i ≡ true =
     λ i h e. ⊎-elim (λ t. t)
-    (λ f. let b = unclaimed c w i (omega (arith, ground .cells)) (eqb-false (cellAt (c .grid) i) CB-FILLED f) in absurd (omega (arith, b, eqb-true (cellAt freshGrid i) CB-FILLED e)))
+    (λ f. let b = unclaimed c w i (omega (arith, ground .cells)) (eqb-false (cellAt (c .grid) i) CB-FILLED f) in
+    absurd (omega (arith, b, eqb-true (cellAt freshGrid i) CB-FILLED e)))
     (bool-cases (claimedAt (c .grid) i)) in
     omega (arith, count-mono (λ x. eqb x CB-FILLED) freshGrid (c .grid) CB-FILLED l filled, ground .claimed)

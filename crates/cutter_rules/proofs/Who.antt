@@ -22,7 +22,8 @@ use Rattle.cutter_rules.specs.Step.{isAt, creatureAt}
 one-place : (a b x y : ℕ) → a < CW → x < CW → eqb (b * CW + a) (y * CW + x) ≡ eqb a x && eqb b y
 one-place a b x y h k =
     ⊎-elim
-    (λ p. ⊎-elim (λ q. rw (eq-eqb a x p, eq-eqb b y q) (eq-eqb (b * CW + a) (y * CW + x) (omega arith))) (λ q. rw (eq-eqb a x p, ne-eqb b y q) (ne-eqb (b * CW + a) (y * CW + x) (λ e. q (omega arith)))) (same? b y))
+    (λ p. ⊎-elim (λ q. rw (eq-eqb a x p, eq-eqb b y q) (eq-eqb (b * CW + a) (y * CW + x) (omega arith)))
+    (λ q. rw (eq-eqb a x p, ne-eqb b y q) (ne-eqb (b * CW + a) (y * CW + x) (λ e. q (omega arith)))) (same? b y))
     (λ p. rw (ne-eqb a x p) (ne-eqb (b * CW + a) (y * CW + x) (λ e. p (omega arith))))
     (same? a x)
 

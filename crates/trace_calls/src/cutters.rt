@@ -20,7 +20,8 @@ ghost use mathlib.Core.Path.{_≡_};
 ghost use lib.ListN.{length};
 ghost use Rattle.trace_states.specs.Cutters.{CUTTER, cutterOf};
 ghost use Rattle.trace_calls.specs.Shared.{marksAt, cutterTold};
-ghost use Rattle.trace_calls.specs.Cutters.{cutterDirected, cutterStepped, cutterSwept, cutterTicked, cutterRespawned, cutterLevelled, cutterPassed, cutterPictured, cutterReported, cutterStarted};
+ghost use Rattle.trace_calls.specs.Cutters.{cutterDirected, cutterStepped, cutterSwept, cutterTicked, cutterRespawned};
+ghost use Rattle.trace_calls.specs.Cutters.{cutterLevelled, cutterPassed, cutterPictured, cutterReported, cutterStarted};
 ghost use Rattle.trace_calls.specs.Cutters.{onCutter};
 
 // Numbers of the calls.

@@ -160,7 +160,8 @@ fn started(h: Head, m: Mine, args: &[u8], current: &[u8], state: &[u8], result: 
 
 pub fn on_mine(h: Head, args: &[u8], current: &[u8], state: &[u8], result: &[u8]) -> Part
     requires { ⌜ length (now current) ≡ MINE ⌝ }
-    ensures { λ r. ⌜ r ≡ onMine h (now (args .entry)) (now (current .entry)) (now (state .entry)) (now (result .entry)) (mineOf (now (current .entry))) (marksAt (now (current .entry))) ⌝ }
+    ensures { λ r. ⌜ r ≡ onMine h (now (args .entry)) (now (current .entry)) (now (state .entry)) (now (result .entry))
+        (mineOf (now (current .entry))) (marksAt (now (current .entry))) ⌝ }
 {
     let m = mine_of(current);
     let p = marks_of(current);

@@ -65,7 +65,8 @@ loop-again c =
       omega arith,
       c .before .before .blit .ensures
           ∙ tile-more (pixel (now (a .frame))) (a .cam-x) (a .cam-y) (l .k) (now (a .grid)) (a .is-open) (l .frame) _ (l .inv .1)
-          (tile-columns-of _ _ _ _ (c .before .before .before .before .before .before .before .before .all-tiles .ensures) (c .before .before .before .tile-columns .ensures) ∙ ap (λ (t : ℕ). columnsOf (artOf t (a .is-open))) (c .before .before .before .before .before .at .ensures)),
+          (tile-columns-of _ _ _ _ (c .before .before .before .before .before .before .before .before .all-tiles .ensures)
+          (c .before .before .before .tile-columns .ensures) ∙ ap (λ (t : ℕ). columnsOf (artOf t (a .is-open))) (c .before .before .before .before .before .at .ensures)),
     )
 
 same-length : tie.Need-same-length Inv-loop μ-loop

@@ -179,7 +179,8 @@ module _ {M : Type 1} (𝓤 : URA M) (H : Heap 𝓤) (A : Atoms 𝓤) (W : Given
     asks k le same =
         exec ! C Λ En pieces.t-5 (atRet En Post) $
         assigns ! (addr ! (from ! (stop !))) (from ! (stop !)) (init ! 2 refl (tt, tt)) $
-        assigns ! (agg ! (and-then ! (load ! (from ! (stop !)) (look ! 2 refl)) (and-then ! (load ! (from ! (stop !)) (look ! 6 refl)) (no-more !)))) (from ! (stop !)) (init ! 0 refl (tt, (tt, (record { fits = lt-of-le-of-lt le (lit< tt) }, tt)))) $
+        assigns ! (agg ! (and-then ! (load ! (from ! (stop !)) (look ! 2 refl)) (and-then ! (load ! (from ! (stop !)) (look ! 6 refl)) (no-more !)))) (from ! (stop !))
+        (init ! 0 refl (tt, (tt, (record { fits = lt-of-le-of-lt le (lit< tt) }, tt)))) $
         rewrite ! 0 (λ (j : ℕ). ‵ (fat fullShare slice l₉ 0 (sliceVal (l₅, 0) j))) (sym (taken k le)) refl $
         lft-new ! tt (λ α. move ! (9 ∷ []) $
         use1 W (later (some (λ (γ : GName). ‵ (Lent k l₅ α γ) ⊛ ‵ (Rest k l₅ α))))

@@ -180,13 +180,18 @@ module _ {M : Type 1} (𝓤 : URA M) (H : Heap 𝓤) (A : Atoms 𝓤) (W : Given
         qed W (‵ (fobs γ (T.the-row .coded .code h)) ∷ ‵ (fbor κ (Body (mem (T.the-row)) b o γ)) ∷ ‵ (flft κ q) ∷ Lent ∷ Kept ∷ []) ∵ enter ! C Λ code.function
         (val m ∷ sliceVal (s1 .ptr) (length (s1 .now)) ∷ sliceVal (s2 .ptr) (length (s2 .now)) ∷ vint w32 t ∷ vptr b o ∷ []) _ $
         alloc1 ! (λ l0. alloc1 ! (λ l1. alloc1 ! (λ l2. alloc1 ! (λ l3. alloc1 ! (λ l4. alloc1 ! (λ l5. alloc1 ! (λ l6. alloc1 ! (λ l7. alloc1 ! (λ l8. alloc0 ! $ params1 ! $
-        pass1 ! (init ! 14 refl (LL.lawful G.the-type G′.the-laws 𝓤 H A W .typed m _ m-is .0)) $ pass1 ! (init ! 12 refl (shr-slice-lawful 𝓤 H A W (named 0) κ1 u8 .typed s1 _ is1 .0)) $ pass1 ! (init ! 10 refl (shr-slice-lawful 𝓤 H A W (named 1) κ2 u8 .typed s2 _ is2 .0)) $ pass1 ! (init ! 8 refl (tt, record { fits = t-fits })) $ pass1 ! (init ! 6 refl (tt, tt)) $ pass0 ! $
+        pass1 ! (init ! 14 refl (LL.lawful G.the-type G′.the-laws 𝓤 H A W .typed m _ m-is .0)) $
+        pass1 ! (init ! 12 refl (shr-slice-lawful 𝓤 H A W (named 0) κ1 u8 .typed s1 _ is1 .0)) $
+        pass1 ! (init ! 10 refl (shr-slice-lawful 𝓤 H A W (named 1) κ2 u8 .typed s2 _ is2 .0)) $ pass1 ! (init ! 8 refl (tt, record { fits = t-fits })) $
+        pass1 ! (init ! 6 refl (tt, tt)) $ pass0 ! $
         move ! (18 ∷ 19 ∷ 20 ∷ []) $ opens ! tt (T.the-row) {h = h} b o
         (λ vs. spelt ! (T.the-row) (Is (T.the-row)) (shows 𝓤 H A (T.the-row)) (LL.vals T.the-type T′.the-laws) (LL.tells T.the-type T′.the-laws) fullShare h vs b o $
         move ! (1 ∷ []) $ peeks ! T.the-row (Is T.the-row) (shows 𝓤 H A T.the-row) h (T′.lowered h ∷ []) (λ g. move ! (1 ∷ 0 ∷ []) $
         -- [cell; own; obor; obs; auth; _8; _7; _6; _5; _4; _3; _2; _1; _0; L; K, each local with what frees it]
-        assigns ! (of-opd ! (load ! (from ! (hop ! (look ! 11 refl) (fld ! refl (stop !)))) (look-in ! 0 (sub ! 0 refl (whole !))))) (from ! (stop !)) (init ! 7 refl (tt, record { fits = first-fits g })) $
-        assigns ! (of-opd ! (load ! (from ! (hop ! (look ! 11 refl) (fld ! refl (stop !)))) (look-in ! 0 (sub ! 1 refl (whole !))))) (from ! (stop !)) (init ! 5 refl (tt, record { fits = second-fits g })) $
+        assigns ! (of-opd ! (load ! (from ! (hop ! (look ! 11 refl) (fld ! refl (stop !)))) (look-in ! 0 (sub ! 0 refl (whole !))))) (from ! (stop !))
+        (init ! 7 refl (tt, record { fits = first-fits g })) $
+        assigns ! (of-opd ! (load ! (from ! (hop ! (look ! 11 refl) (fld ! refl (stop !)))) (look-in ! 0 (sub ! 1 refl (whole !))))) (from ! (stop !))
+        (init ! 5 refl (tt, record { fits = second-fits g })) $
         move ! (23 ∷ []) $ use1 W (raw (PassAt 𝓤 H A at-mem run .pre to)) (goes (first-fits g) (second-fits g)) $
         calls-at ! fm (PassAt 𝓤 H A at-mem run) known to
         (and-then ! (load ! (from ! (stop !)) (look ! 20 refl))
@@ -201,8 +206,10 @@ module _ {M : Type 1} (𝓤 : URA M) (H : Heap 𝓤) (A : Atoms 𝓤) (W : Given
         -- [T; cell; own; obor; obs; auth; _8; _7; _6; _5; _4; _3; _2; _1; _0; K, each local with what frees it]
         land ! (from ! (stop !)) (init ! 10 refl (LL.lawful S.the-type S′.the-laws 𝓤 H A W .typed r _ is .0)) $
         rewrite ! 10 (λ (w : Val). ‵ (fat fullShare S′.mir l6 0 w)) (ap only (LL.tells S.the-type S′.the-laws r (u ∷ []) is)) refl $
-        assigns ! (of-opd ! (load ! (from ! (fld ! refl (stop !))) (look-in ! 10 (sub ! 0 refl (whole !))))) (from ! (hop ! (look ! 12 refl) (fld ! refl (stop !)))) (store-in ! 1 (sub ! 0 refl (whole !)) (tt, record { fits = fields r is .0 .1 })) $
-        assigns ! (of-opd ! (load ! (from ! (fld ! refl (stop !))) (look-in ! 10 (sub ! 1 refl (whole !))))) (from ! (hop ! (look ! 12 refl) (fld ! refl (stop !)))) (store-in ! 1 (sub ! 1 refl (whole !)) (tt, record { fits = fields r is .1 .0 .1 })) $
+        assigns ! (of-opd ! (load ! (from ! (fld ! refl (stop !))) (look-in ! 10 (sub ! 0 refl (whole !))))) (from ! (hop ! (look ! 12 refl) (fld ! refl (stop !))))
+        (store-in ! 1 (sub ! 0 refl (whole !)) (tt, record { fits = fields r is .0 .1 })) $
+        assigns ! (of-opd ! (load ! (from ! (fld ! refl (stop !))) (look-in ! 10 (sub ! 1 refl (whole !))))) (from ! (hop ! (look ! 12 refl) (fld ! refl (stop !))))
+        (store-in ! 1 (sub ! 1 refl (whole !)) (tt, record { fits = fields r is .1 .0 .1 })) $
         assigns ! (of-opd ! (load ! (from ! (fld ! refl (stop !))) (look-in ! 10 (sub ! 2 refl (whole !))))) (from ! (stop !))
         (init ! 22 refl (LL.lawful P.the-type P′.the-laws 𝓤 H A W .typed (r .passed) _ (fields r is .1 .1 .0) .0)) $
         move ! (2 ∷ []) $ drop ! $ owned ! (T.the-row) (Is (T.the-row)) (LL.makes T.the-type T′.the-plain 𝓤 H A) (marksOf r) _

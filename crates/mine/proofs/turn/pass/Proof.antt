@@ -148,13 +148,17 @@ module _ {M : Type 1} (𝓤 : URA M) (H : Heap 𝓤) (A : Atoms 𝓤) (W : Given
         -- [obs; the borrow; its token; what keys own; their token; …]
         enter ! C Λ code.function (LL.val G.the-type G′.the-laws m ∷ sliceVal (k .ptr) (length (k .now)) ∷ vint w32 t ∷ vptr b o ∷ []) _ $
         alloc1 ! (λ l₀. alloc1 ! (λ l₁. alloc1 ! (λ l₂. alloc1 ! (λ l₃. alloc1 ! (λ l₄. alloc1 ! (λ l₅. alloc1 ! (λ l₆. alloc1 ! (λ l₇. alloc0 ! $ params1 ! $
-        pass1 ! (init ! 12 refl (LL.lawful G.the-type G′.the-laws 𝓤 H A W .typed m _ m-is .0)) $ pass1 ! (init ! 10 refl (shr-slice-lawful 𝓤 H A W (named 0) κ u8 .typed k _ k-is .0)) $ pass1 ! (init ! 8 refl (tt, record { fits = t-fits })) $ pass1 ! (init ! 6 refl (tt, tt)) $ pass0 ! $
+        pass1 ! (init ! 12 refl (LL.lawful G.the-type G′.the-laws 𝓤 H A W .typed m _ m-is .0)) $
+        pass1 ! (init ! 10 refl (shr-slice-lawful 𝓤 H A W (named 0) κ u8 .typed k _ k-is .0)) $ pass1 ! (init ! 8 refl (tt, record { fits = t-fits })) $
+        pass1 ! (init ! 6 refl (tt, tt)) $ pass0 ! $
         move ! (16 ∷ 17 ∷ 18 ∷ []) $ opens ! tt (T.the-row) {h = h} b o
         (λ vs. spelt ! (T.the-row) (Is (T.the-row)) (shows 𝓤 H A (T.the-row)) (LL.vals T.the-type T′.the-laws) (LL.tells T.the-type T′.the-laws) fullShare h vs b o $
         move ! (1 ∷ []) $ peeks ! T.the-row (Is T.the-row) (shows 𝓤 H A T.the-row) h (T′.lowered h ∷ []) (λ g. move ! (1 ∷ 0 ∷ []) $
         -- [the record's cell; what a Pace owns; the open borrow; obs; auth; _7; …; _6; …; _5; …; _4; …; _3; …; _2; …; _1; …; room for _0; …; keys; their token; …]
-        assigns ! (of-opd ! (load ! (from ! (hop ! (look ! 11 refl) (fld ! refl (stop !)))) (look-in ! 0 (sub ! 0 refl (whole !))))) (from ! (stop !)) (init ! 7 refl (tt, record { fits = first-fits g })) $
-        assigns ! (of-opd ! (load ! (from ! (hop ! (look ! 11 refl) (fld ! refl (stop !)))) (look-in ! 0 (sub ! 1 refl (whole !))))) (from ! (stop !)) (init ! 5 refl (tt, record { fits = second-fits g })) $
+        assigns ! (of-opd ! (load ! (from ! (hop ! (look ! 11 refl) (fld ! refl (stop !)))) (look-in ! 0 (sub ! 0 refl (whole !))))) (from ! (stop !))
+        (init ! 7 refl (tt, record { fits = first-fits g })) $
+        assigns ! (of-opd ! (load ! (from ! (hop ! (look ! 11 refl) (fld ! refl (stop !)))) (look-in ! 0 (sub ! 1 refl (whole !))))) (from ! (stop !))
+        (init ! 5 refl (tt, record { fits = second-fits g })) $
         move ! (21 ∷ []) $ use1 W (‵ Keys ⊛ ‵ Keys) (shr-slice-copy 𝓤 H A W (named 0) κ u8 .twice k (slice-vals k)) $ split ! $ move ! (23 ∷ 0 ∷ []) $
         use2 W (raw (PassAt 𝓤 H A at-mem run .pre to)) (goes (first-fits g) (second-fits g)) $
         calls-at ! fm (PassAt 𝓤 H A at-mem run) known to
@@ -169,8 +173,10 @@ module _ {M : Type 1} (𝓤 : URA M) (H : Heap 𝓤) (A : Atoms 𝓤) (W : Given
         -- [the keys' token; keys; the record's cell; what a Pace owns; the open borrow; obs; auth; _7; …]
         land ! (from ! (stop !)) (init ! 11 refl (LL.lawful S.the-type S′.the-laws 𝓤 H A W .typed r _ is .0)) $
         rewrite ! 11 (λ (w : Val). ‵ (fat fullShare S′.mir l₅ 0 w)) (ap only (LL.tells S.the-type S′.the-laws r (u ∷ []) is)) refl $
-        assigns ! (of-opd ! (load ! (from ! (fld ! refl (stop !))) (look-in ! 11 (sub ! 0 refl (whole !))))) (from ! (hop ! (look ! 13 refl) (fld ! refl (stop !)))) (store-in ! 2 (sub ! 0 refl (whole !)) (tt, record { fits = fields r is .0 .1 })) $
-        assigns ! (of-opd ! (load ! (from ! (fld ! refl (stop !))) (look-in ! 11 (sub ! 1 refl (whole !))))) (from ! (hop ! (look ! 13 refl) (fld ! refl (stop !)))) (store-in ! 2 (sub ! 1 refl (whole !)) (tt, record { fits = fields r is .1 .0 .1 })) $
+        assigns ! (of-opd ! (load ! (from ! (fld ! refl (stop !))) (look-in ! 11 (sub ! 0 refl (whole !))))) (from ! (hop ! (look ! 13 refl) (fld ! refl (stop !))))
+        (store-in ! 2 (sub ! 0 refl (whole !)) (tt, record { fits = fields r is .0 .1 })) $
+        assigns ! (of-opd ! (load ! (from ! (fld ! refl (stop !))) (look-in ! 11 (sub ! 1 refl (whole !))))) (from ! (hop ! (look ! 13 refl) (fld ! refl (stop !))))
+        (store-in ! 2 (sub ! 1 refl (whole !)) (tt, record { fits = fields r is .1 .0 .1 })) $
         assigns ! (of-opd ! (load ! (from ! (fld ! refl (stop !))) (look-in ! 11 (sub ! 2 refl (whole !))))) (from ! (stop !))
         (init ! 21 refl (LL.lawful P.the-type P′.the-laws 𝓤 H A W .typed (r .passed) _ (fields r is .1 .1 .0) .0)) $
         move ! (3 ∷ []) $ drop ! $ owned ! (T.the-row) (Is (T.the-row)) (LL.makes T.the-type T′.the-plain 𝓤 H A) (marksOf r) _

@@ -70,8 +70,16 @@ returns-4 c =
     let o = behind f in
     let bx = b .bx .given .0 .0 in
     let by = b .bx .given .0 .1 .0 in
-    simp (c .go .ensures)
-    (λ m p. shoved p (s .args .x) (s .args .y) bx by ∙ simp (not-false (sideways (s .args .dir)) (n .before .if1 .left), sym (n .next-cell .ensures) ∙ b .bx .given .1, freed p bx by ∙ sym (f .free .ensures) ∙ not-false (f .free .result) (c .before .if2 .left)), record { cell = omega (arith, o .across, o .down); home = s .pre .there })
+    simp (c .go .ensures) (
+      λ m p. shoved p (s .args .x) (s .args .y) bx by
+          ∙ simp (
+            not-false (sideways (s .args .dir)) (n .before .if1 .left),
+            sym (n .next-cell .ensures) ∙ b .bx .given .1,
+            freed p bx by ∙ sym (f .free .ensures)
+                ∙ not-false (f .free .result) (c .before .if2 .left),
+          ),
+      record { cell = omega (arith, o .across, o .down); home = s .pre .there },
+    )
 
 pub push-spec : {M : Type 1} → statement M
 push-spec =

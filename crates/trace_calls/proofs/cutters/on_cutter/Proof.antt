@@ -45,7 +45,9 @@ returns-4 c =
     let k1 = c .before .before .before in
     let k2 = k1 .before .before .before .before .before in
     let a = k2 .args in
-    simp (tested (c .before .match .keys4) 18, tested (c .before .match .keys4) 19, tested (c .before .match .keys4) 20, tested (c .before .match .keys4) 21) (c .«respawned» .ensures ∙ ap₂ (λ (g : Cutter) (p : Pace). cutterRespawned (a .h) (a .args .now) (a .current .now) (a .state .now) (a .result .now) g p) (k1 .«cutter-of» .ensures) (c .before .before .«marks-of» .ensures))
+    simp (tested (c .before .match .keys4) 18, tested (c .before .match .keys4) 19, tested (c .before .match .keys4) 20, tested (c .before .match .keys4) 21)
+    (c .«respawned» .ensures ∙ ap₂ (λ (g : Cutter) (p : Pace). cutterRespawned (a .h) (a .args .now) (a .current .now) (a .state .now) (a .result .now) g p)
+    (k1 .«cutter-of» .ensures) (c .before .before .«marks-of» .ensures))
 
 returns-5 : tie.Need-returns-5
 unfolding onCutter
@@ -53,7 +55,15 @@ returns-5 c =
     let k1 = c .before .before .before in
     let k2 = k1 .before .before .before .before .before in
     let a = k2 .args in
-    simp (tested (c .before .match .keys5) 18, tested (c .before .match .keys5) 19, tested (c .before .match .keys5) 20, tested (c .before .match .keys5) 21, tested (c .before .match .keys5) 22) (c .«levelled» .ensures ∙ ap₂ (λ (g : Cutter) (p : Pace). cutterLevelled (a .h) (a .args .now) (a .current .now) (a .state .now) (a .result .now) g p) (k1 .«cutter-of» .ensures) (c .before .before .«marks-of» .ensures))
+    simp (
+      tested (c .before .match .keys5) 18,
+      tested (c .before .match .keys5) 19,
+      tested (c .before .match .keys5) 20,
+      tested (c .before .match .keys5) 21,
+      tested (c .before .match .keys5) 22,
+    )
+    (c .«levelled» .ensures ∙ ap₂ (λ (g : Cutter) (p : Pace). cutterLevelled (a .h) (a .args .now) (a .current .now) (a .state .now) (a .result .now) g p)
+    (k1 .«cutter-of» .ensures) (c .before .before .«marks-of» .ensures))
 
 returns-6 : tie.Need-returns-6
 unfolding onCutter
@@ -61,7 +71,16 @@ returns-6 c =
     let k1 = c .before .before .before in
     let k2 = k1 .before .before .before .before .before in
     let a = k2 .args in
-    simp (tested (c .before .match .keys6) 18, tested (c .before .match .keys6) 19, tested (c .before .match .keys6) 20, tested (c .before .match .keys6) 21, tested (c .before .match .keys6) 22, tested (c .before .match .keys6) 23) (c .«passed» .ensures ∙ ap₂ (λ (g : Cutter) (p : Pace). cutterPassed (a .h) (a .args .now) (a .current .now) (a .state .now) (a .result .now) g p) (k1 .«cutter-of» .ensures) (c .before .before .«marks-of» .ensures))
+    simp (
+      tested (c .before .match .keys6) 18,
+      tested (c .before .match .keys6) 19,
+      tested (c .before .match .keys6) 20,
+      tested (c .before .match .keys6) 21,
+      tested (c .before .match .keys6) 22,
+      tested (c .before .match .keys6) 23,
+    )
+    (c .«passed» .ensures ∙ ap₂ (λ (g : Cutter) (p : Pace). cutterPassed (a .h) (a .args .now) (a .current .now) (a .state .now) (a .result .now) g p)
+    (k1 .«cutter-of» .ensures) (c .before .before .«marks-of» .ensures))
 
 returns-7 : tie.Need-returns-7
 unfolding onCutter
@@ -104,7 +123,19 @@ returns-9 c =
     let k1 = c .before .before .before in
     let k2 = k1 .before .before .before .before .before in
     let a = k2 .args in
-    simp (tested (c .before .match .keys9) 18, tested (c .before .match .keys9) 19, tested (c .before .match .keys9) 20, tested (c .before .match .keys9) 21, tested (c .before .match .keys9) 22, tested (c .before .match .keys9) 23, tested (c .before .match .keys9) 24, tested (c .before .match .keys9) 25, tested (c .before .match .keys9) 29) (c .«swept» .ensures ∙ ap₂ (λ (g : Cutter) (p : Pace). cutterSwept (a .h) (a .args .now) (a .current .now) (a .state .now) (a .result .now) g p) (k1 .«cutter-of» .ensures) (c .before .before .«marks-of» .ensures))
+    simp (
+      tested (c .before .match .keys9) 18,
+      tested (c .before .match .keys9) 19,
+      tested (c .before .match .keys9) 20,
+      tested (c .before .match .keys9) 21,
+      tested (c .before .match .keys9) 22,
+      tested (c .before .match .keys9) 23,
+      tested (c .before .match .keys9) 24,
+      tested (c .before .match .keys9) 25,
+      tested (c .before .match .keys9) 29,
+    )
+    (c .«swept» .ensures ∙ ap₂ (λ (g : Cutter) (p : Pace). cutterSwept (a .h) (a .args .now) (a .current .now) (a .state .now) (a .result .now) g p)
+    (k1 .«cutter-of» .ensures) (c .before .before .«marks-of» .ensures))
 
 returns-10 : tie.Need-returns-10
 unfolding onCutter

@@ -44,7 +44,9 @@ returns-4 c =
     let k1 = c .before .before .before in
     let k2 = k1 .before .before .before .before .before in
     let a = k2 .args in
-    simp (tested (c .before .match .keys4) 2, tested (c .before .match .keys4) 3, tested (c .before .match .keys4) 4, tested (c .before .match .keys4) 5) (c .«passed» .ensures ∙ ap₂ (λ (g : Mine) (p : Pace). minePassed (a .h) (a .args .now) (a .current .now) (a .state .now) (a .result .now) g p) (k1 .«mine-of» .ensures) (c .before .before .«marks-of» .ensures))
+    simp (tested (c .before .match .keys4) 2, tested (c .before .match .keys4) 3, tested (c .before .match .keys4) 4, tested (c .before .match .keys4) 5)
+    (c .«passed» .ensures ∙ ap₂ (λ (g : Mine) (p : Pace). minePassed (a .h) (a .args .now) (a .current .now) (a .state .now) (a .result .now) g p)
+    (k1 .«mine-of» .ensures) (c .before .before .«marks-of» .ensures))
 
 returns-5 : tie.Need-returns-5
 unfolding onMine
