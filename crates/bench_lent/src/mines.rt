@@ -21,7 +21,8 @@ pub extern "C" fn rule_mine_step_on(
     dir: u8,
 ) -> Player
     requires { ⌜ Stands (now grid) (now spots) (record { px = px; py = py; coins = coins; needed = needed; dead = dead; won = won }) ⌝ }
-    ensures { λ r. ⌜ Steps (now (grid .entry)) (now (spots .entry)) (record { px = px; py = py; coins = coins; needed = needed; dead = dead; won = won }) dir (now (grid .exit)) r ⌝ }
+    ensures { λ r. ⌜ Steps (now (grid .entry)) (now (spots .entry))
+        (record { px = px; py = py; coins = coins; needed = needed; dead = dead; won = won }) dir (now (grid .exit)) r ⌝ }
 {
     let p = Player {
         px: px,
@@ -45,7 +46,8 @@ pub extern "C" fn rule_mine_gravity_on(
     py: usize,
 ) -> Fallen
     requires { ⌜ Falling (now grid) (now falling) (now spots) (now dirs) s px py ⌝ }
-    ensures { λ r. ⌜ Dropped gravityOf px py (now (grid .entry)) (now (falling .entry)) (now (spots .entry)) (now (dirs .entry)) s (now (grid .exit)) (now (falling .exit)) (now (spots .exit)) (now (dirs .exit)) r ⌝ }
+    ensures { λ r. ⌜ Dropped gravityOf px py (now (grid .entry)) (now (falling .entry)) (now (spots .entry)) (now (dirs .entry)) s (now (grid .exit))
+        (now (falling .exit)) (now (spots .exit)) (now (dirs .exit)) r ⌝ }
 {
     mine_fall::gravity_on(grid, falling, spots, dirs, s, px, py)
 }

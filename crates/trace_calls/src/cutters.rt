@@ -252,7 +252,8 @@ fn started(h: Head, c: Cutter, args: &[u8], current: &[u8], state: &[u8], result
 
 pub fn on_cutter(h: Head, args: &[u8], current: &[u8], state: &[u8], result: &[u8]) -> Part
     requires { ⌜ length (now current) ≡ CUTTER ⌝ }
-    ensures { λ r. ⌜ r ≡ onCutter h (now (args .entry)) (now (current .entry)) (now (state .entry)) (now (result .entry)) (cutterOf (now (current .entry))) (marksAt (now (current .entry))) ⌝ }
+    ensures { λ r. ⌜ r ≡ onCutter h (now (args .entry)) (now (current .entry)) (now (state .entry)) (now (result .entry))
+        (cutterOf (now (current .entry))) (marksAt (now (current .entry))) ⌝ }
 {
     let c = cutter_of(current);
     let p = marks_of(current);
