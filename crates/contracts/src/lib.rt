@@ -1,0 +1,1 @@
+// No code: what it is that a contract decides the outcome of a call.
