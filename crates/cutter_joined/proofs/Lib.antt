@@ -2,3 +2,4 @@ pub mod Joined
 pub mod Steps
 pub mod Labels
 pub mod Certificate
+pub mod Region
