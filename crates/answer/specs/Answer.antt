@@ -1,5 +1,5 @@
--- What a pass answers: document 01's words, their numbers, and the enum's case for each.
-use Prim.Native.Nat.{ℕ, zero, suc}
+-- What a pass answers: document 01's number and word for each case of the enum.
+use Prim.Native.Nat.{ℕ}
 use Prim.Native.String.{String}
 use Rattle.answer.specs.declared.Answer.{Answer}
 use Rattle.answer.specs.declared.Answer.the-variants.{GoingOn, Won, Dead, Over, Quit}
@@ -20,15 +20,7 @@ OVER = 3
 abbrev pub QUIT : ℕ
 QUIT = 4
 
--- the answer of a number, as the promises give it
-abbrev pub answerOf : ℕ → Answer
-answerOf zero = GoingOn
-answerOf (suc zero) = Won
-answerOf (suc (suc zero)) = Dead
-answerOf (suc (suc (suc zero))) = Over
-answerOf (suc (suc (suc (suc n)))) = Quit
-
--- the number of an answer, and its word
+-- the number of a case, and its word
 abbrev pub numberOf : Answer → ℕ
 numberOf GoingOn = GOING-ON
 numberOf Won = WON

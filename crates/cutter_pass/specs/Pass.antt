@@ -6,7 +6,7 @@ use lib.Dec.{eqb, ltb}
 use lib.ListN.{length}
 use Rattle.refusal.specs.Refusal.{NONE, DRAWS, LAST-LEVEL, unless, _then_, refusedOr}
 use Rattle.answer.specs.declared.Answer.{Answer}
-use Rattle.answer.specs.Answer.{GOING-ON, OVER, QUIT, answerOf}
+use Rattle.answer.specs.declared.Answer.the-variants.{GoingOn, Over, Quit}
 use Rattle.pace.specs.declared.Pace.{Pace}
 use Rattle.pace.specs.declared.Ticks.{Ticks}
 use Rattle.pace.specs.Pace.{bothTicks}
@@ -96,25 +96,25 @@ module _ (first second : ℕ) where
 
   -- over at 0 lives, else respawn, end of pass
   unfoldable pub afterDeath : Cutter → CutterTurn
-  afterDeath c = cond (eqb (hurt c .lives) 0) (still NONE (answerOf OVER) (hurt c)) (still NONE (answerOf GOING-ON) (respawned (hurt c)))
+  afterDeath c = cond (eqb (hurt c .lives) 0) (still NONE Over (hurt c)) (still NONE GoingOn (respawned (hurt c)))
 
   -- quit: no ticks; else both ticks of the reading
   unfoldable pub afterKeys : ℕ → Played Cutter → CutterTurn
   afterKeys time p =
       let due : Ticks = bothTicks time first second CUT-MOVE-CYCLES CUT-ENEMY-CYCLES in
-      cond (p .quit) (still NONE (answerOf QUIT) (p .game))
-      (record { first = due .first; second = due .second; passed = record { refusal = NONE; answer = answerOf GOING-ON; game = paced (p .game) due } })
+      cond (p .quit) (still NONE Quit (p .game))
+      (record { first = due .first; second = due .second; passed = record { refusal = NONE; answer = GoingOn; game = paced (p .game) due } })
 
   -- dead first; else level won; else the keys
   unfoldable pub passOn : Cutter → List ℕ → List ℕ → ℕ → CutterTurn
   passOn c keys draws time =
       cond (c .dead) (afterDeath c)
-      (cond (c .«won_level») (still NONE (answerOf GOING-ON) (nextLevel c draws)) (afterKeys time (played c keys)))
+      (cond (c .«won_level») (still NONE GoingOn (nextLevel c draws)) (afterKeys time (played c keys)))
 
 -- a refused pass leaves state and record, and answers going on
 unfoldable pub passAt : Cutter → List ℕ → List ℕ → ℕ → ℕ → ℕ → CutterTurn
 passAt c keys draws time first second =
-    refusedOr (passRefusal c draws) (λ n. still first second n (answerOf GOING-ON) c) (passOn first second c keys draws time)
+    refusedOr (passRefusal c draws) (λ n. still first second n GoingOn c) (passOn first second c keys draws time)
 
 -- the record after
 abbrev pub marksOf : CutterTurn → Pace

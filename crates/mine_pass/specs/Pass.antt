@@ -5,7 +5,7 @@ use Prim.Native.Nat.{ℕ}
 use lib.Dec.{eqb}
 use Rattle.refusal.specs.Refusal.{NONE, refusedOr}
 use Rattle.answer.specs.declared.Answer.{Answer}
-use Rattle.answer.specs.Answer.{GOING-ON, WON, DEAD, QUIT, answerOf}
+use Rattle.answer.specs.declared.Answer.the-variants.{GoingOn, Won, Dead, Quit}
 use Rattle.pace.specs.declared.Pace.{Pace}
 use Rattle.pace.specs.declared.Ticks.{Ticks}
 use Rattle.pace.specs.Pace.{bothTicks}
@@ -46,17 +46,17 @@ module _ (first second : ℕ) where
   unfoldable pub afterKeys : ℕ → Played Mine → MineTurn
   afterKeys time p =
       let due : Ticks = bothTicks time first second GRAVITY-CYCLES ENEMY-CYCLES in
-      cond (p .quit) (still NONE (answerOf QUIT) (p .game))
-      (record { first = due .first; second = due .second; passed = record { refusal = NONE; answer = answerOf GOING-ON; game = paced (p .game) due } })
+      cond (p .quit) (still NONE Quit (p .game))
+      (record { first = due .first; second = due .second; passed = record { refusal = NONE; answer = GoingOn; game = paced (p .game) due } })
 
   -- won ends the round, else dead ends it, nothing changed; then the keys
   unfoldable pub passOn : Mine → List ℕ → ℕ → MineTurn
-  passOn m keys time = cond (m .won) (still NONE (answerOf WON) m) (cond (m .dead) (still NONE (answerOf DEAD) m) (afterKeys time (played m keys)))
+  passOn m keys time = cond (m .won) (still NONE Won m) (cond (m .dead) (still NONE Dead m) (afterKeys time (played m keys)))
 
 -- a refused pass leaves state and record, and answers going on
 unfoldable pub passAt : Mine → List ℕ → ℕ → ℕ → ℕ → MineTurn
 passAt m keys time first second =
-    refusedOr (refusalOf m) (λ n. still first second n (answerOf GOING-ON) m) (passOn first second m keys time)
+    refusedOr (refusalOf m) (λ n. still first second n GoingOn m) (passOn first second m keys time)
 
 -- the record after
 abbrev pub marksOf : MineTurn → Pace
