@@ -19,9 +19,9 @@ use Rattle.cutter_ground.specs.Cells.{CN, CB-BLACK, CB-FILLED, CB-TRAIL, cellAt
 use Rattle.cutter_state.specs.declared.Cutter.{Cutter}
 use Rattle.cutter_state.specs.State.{creatures}
 use Rattle.cutter_state.specs.WellFormed.{isCode, isTrail, WellFormed}
-use Rattle.cutter_rules.specs.Step.{noDirection, target, entered, cutClosed, atBorder, trailingStep, walkingStep, met, stepped, creatureAt}
+use Rattle.cutter_rules.specs.Step.{noDirection, target, trailingStep, walkingStep, met, stepped, creatureAt}
 use Rattle.cutter_keeps.specs.Kept.{Kept, Laid, Closed}
-use Rattle.cutter_keeps.specs.Steps.{advances, closes, lays, takenBy, goneBy, Stepped}
+use Rattle.cutter_keeps.specs.Steps.{advances, closes, ClosesStep, lays, takenBy, goneBy, Stepped}
 use Rattle.cutter_keeps.proofs.Changes.{kept-self, kept-player, kept-direction, kept-dead}
 use Rattle.cutter_keeps.proofs.Closing.{closing}
 use Rattle.cutter_keeps.proofs.Creatures.{cell-holds}
@@ -128,7 +128,7 @@ found-nobody : (f : Found) → nobody f ≡ true → f ≡ Nobody
 found-nobody (At i n) e = absurd (true≢false (sym e))
 found-nobody Nobody e = refl
 
-pub closes-step : (c : Cutter) → closes c ≡ true → stepped c ≡ atBorder (cutClosed (entered c (target c)))
+pub closes-step : ClosesStep
 unfolding closes advances stepped met trailingStep
 closes-step c e =
     let f = creatureAt (creatures c) (target c) in

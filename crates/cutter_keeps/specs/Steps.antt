@@ -10,7 +10,7 @@ use Rattle.cutter_closing.specs.Account.{takenOf, goneOf}
 use Rattle.cutter_state.specs.declared.Cutter.{Cutter}
 use Rattle.cutter_state.specs.State.{creatures, claimedIn, lineIn}
 use Rattle.cutter_state.specs.WellFormed.{WellFormed}
-use Rattle.cutter_rules.specs.Step.{noDirection, target, creatureAt}
+use Rattle.cutter_rules.specs.Step.{noDirection, target, creatureAt, entered, cutClosed, atBorder, stepped}
 use Rattle.cutter_keeps.specs.Kept.{Kept, Laid, Closed}
 
 -- the player has a direction, to a cell of the grid where no creature is
@@ -20,6 +20,10 @@ advances c = not (noDirection c) && ltb (target c) CN && nobody (creatureAt (cre
 -- a step closes the cut: trailing, to a claimed cell
 unfoldable pub closes : Cutter → Bool
 closes c = advances c && (c .trailing && claimedAt (c .grid) (target c))
+
+-- that is the step of document 01 that enters, closes the cut and then moves to the border
+abbrev pub ClosesStep : Type 0
+ClosesStep = (c : Cutter) → closes c ≡ true → stepped c ≡ atBorder (cutClosed (entered c (target c)))
 
 -- a step lays line: to a black cell
 unfoldable pub lays : Cutter → Bool

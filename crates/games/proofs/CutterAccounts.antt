@@ -16,7 +16,7 @@ use Rattle.cutter.specs.Calls.{roundCall, levelCall}
 use Rattle.games.specs.CutterCalls.{CutterCall, Round, Level, Direction, Step, StepBySweeps, Tick, Respawn, Report, Begin, Pass, PassMarks}
 use Rattle.games.specs.CutterCalls.{Picture, Question, Play, called, after, goesOn, sum, claims, loses}
 use Rattle.games.specs.CutterAccounts.{CutterAccounts, CutterFormed}
-use Rattle.games.proofs.CutterCalls.{round-fresh, call-fresh, round-refused, level-refused, direction-called, step-called, sweeps-called}
+use Rattle.games.proofs.CutterCalls.{round-fresh, call-fresh, round-refused, level-refused, direction-called, step-counted, sweeps-counted}
 use Rattle.games.proofs.CutterCalls.{tick-called, respawn-called, pass-called, pass-starts, passAt-formed, direction-formed, step-formed}
 use Rattle.games.proofs.CutterCalls.{sweeps-formed, tick-formed, respawn-formed}
 
@@ -44,8 +44,8 @@ unfolding called
 called-accounts p (Round draws) w e = kept-accounts (round-refused (p .game) w draws e)
 called-accounts p (Level draws) w e = kept-accounts (level-refused (p .game) w draws e)
 called-accounts p (Direction dir) w e = kept-accounts (direction-called (p .game) w dir)
-called-accounts p Step w e = step-called (p .game) w
-called-accounts p StepBySweeps w e = sweeps-called (p .game) w
+called-accounts p Step w e = step-counted (p .game) w
+called-accounts p StepBySweeps w e = sweeps-counted (p .game) w
 called-accounts p Tick w e = kept-accounts (tick-called (p .game) w)
 called-accounts p Respawn w e = respawn-called (p .game) w
 called-accounts p Report w e = kept-accounts (kept-self w)

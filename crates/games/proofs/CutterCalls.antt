@@ -87,12 +87,29 @@ module _ (c : Cutter) (w : WellFormed c) where
   plays : (s : Cutter) → refusedOr (refusalOf c) (refused c) (answered s) ≡ answered s
   plays s = answered-by (refused c) (answered s) (refusalOf c) (well-formed-none c (from-facts c w))
 
+  pub step-plays : stepCall c ≡ answered (stepped c)
+  unfolding stepCall
+  step-plays = plays (stepped c)
+
+  pub direction-plays : (dir : ℕ) → leb dir LEFT ≡ true → directionCall c dir ≡ answered (directed c dir)
+  unfolding directionCall
+  direction-plays dir e =
+      answered-by (refused c) (answered (directed c dir)) (refusalOf c then unless (leb dir LEFT) COMMAND) (rw (well-formed-none c (from-facts c w), e))
+
   pub step-called : Accounts c (stepCall c .game) (stepClaims c) (stepLoses c)
   unfolding stepCall
   step-called = subst (λ (a : CutterAnswer). Accounts c (a .game) (stepClaims c) (stepLoses c)) (sym (plays (stepped c))) (step-accounts c w)
 
-  pub sweeps-called : Accounts c (sweepsCall c .game) (stepClaims c) (stepLoses c)
-  sweeps-called = subst (λ (a : CutterAnswer). Accounts c (a .game) (stepClaims c) (stepLoses c)) (sym (sweeps-call c)) step-called
+  -- as the accounts count it
+  abbrev Counted : CutterAnswer → Type 0
+  Counted a = Accounts c (a .game) (cond (eqb (a .refusal) NONE) (stepClaims c) 0) (cond (eqb (a .refusal) NONE) (stepLoses c) 0)
+
+  pub step-counted : Counted (stepCall c)
+  unfolding stepCall
+  step-counted = subst Counted (sym (plays (stepped c))) (step-accounts c w)
+
+  pub sweeps-counted : Counted (sweepsCall c)
+  sweeps-counted = subst Counted (sym (sweeps-call c)) step-counted
 
   pub tick-called : Kept c (enemiesCall c .game)
   unfolding enemiesCall

@@ -12,6 +12,7 @@ use Rattle.cutter_keeps.specs.Steps.{stepClaims, stepLoses}
 use Rattle.cutter_pass.specs.declared.CutterPassed.{CutterPassed}
 use Rattle.cutter_pass.specs.Pass.{levelDue, passAt}
 use Rattle.cutter_pass.specs.Accounts.{passClaims, passLoses}
+use Rattle.cutter.specs.declared.calls.CutterAnswer.{CutterAnswer}
 use Rattle.cutter.specs.Calls.{roundCall, levelCall, directionCall, stepCall, sweepsCall, enemiesCall, respawnCall}
 use Rattle.cutter.specs.Turn.{passOf}
 
@@ -50,6 +51,12 @@ module _ (p : Play) where
   abbrev pub starting : ℕ → Cutter → Outcome
   starting refusal s = record { play = playing s; starts = eqb refusal NONE; claims = 0; loses = 0 }
 
+  -- a step that is not refused has its closing
+  abbrev pub stepping : CutterAnswer → Outcome
+  stepping a =
+      let goes : Bool = eqb (a .refusal) NONE in
+      record { play = playing (a .game); starts = false; claims = cond goes (stepClaims (p .game)) 0; loses = cond goes (stepLoses (p .game)) 0 }
+
   -- a pass that is not refused starts the level that is due, and has the closing of its step; `first` is the step's mark
   abbrev pub passing : List ℕ → ℕ → ℕ → CutterPassed → Pace → Outcome
   passing keys time first passed pace =
@@ -66,10 +73,8 @@ unfoldable pub called : Play → CutterCall → Outcome
 called p (Round draws) = starting p (roundCall draws .refusal) (refusedOr (roundCall draws .refusal) (λ _. p .game) (roundCall draws .game))
 called p (Level draws) = starting p (levelCall (p .game) draws .refusal) (levelCall (p .game) draws .game)
 called p (Direction dir) = only (playing p (directionCall (p .game) dir .game))
-called p Step =
-    record { play = playing p (stepCall (p .game) .game); starts = false; claims = stepClaims (p .game); loses = stepLoses (p .game) }
-called p StepBySweeps =
-    record { play = playing p (sweepsCall (p .game) .game); starts = false; claims = stepClaims (p .game); loses = stepLoses (p .game) }
+called p Step = stepping p (stepCall (p .game))
+called p StepBySweeps = stepping p (sweepsCall (p .game))
 called p Tick = only (playing p (enemiesCall (p .game) .game))
 called p Respawn = only (playing p (respawnCall (p .game) .game))
 called p Report = only p
