@@ -3,3 +3,4 @@ pub mod Keys
 pub mod Kept
 pub mod Accounts
 pub mod Answers
+pub mod Cases

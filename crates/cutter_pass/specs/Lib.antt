@@ -1,3 +1,4 @@
 pub mod Pass
 pub mod Accounts
 pub mod CodePass
+pub mod Cases

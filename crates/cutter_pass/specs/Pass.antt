@@ -98,10 +98,14 @@ module _ (first second : ℕ) where
   unfoldable pub afterDeath : Cutter → CutterTurn
   afterDeath c = cond (eqb (hurt c .lives) 0) (still NONE Over (hurt c)) (still NONE GoingOn (respawned (hurt c)))
 
+  -- which of step and creatures are due at a reading, and the marks after it
+  abbrev pub ticksAt : ℕ → Ticks
+  ticksAt time = bothTicks time first second CUT-MOVE-CYCLES CUT-ENEMY-CYCLES
+
   -- quit: no ticks; else both ticks of the reading
   unfoldable pub afterKeys : ℕ → Played Cutter → CutterTurn
   afterKeys time p =
-      let due : Ticks = bothTicks time first second CUT-MOVE-CYCLES CUT-ENEMY-CYCLES in
+      let due : Ticks = ticksAt time in
       cond (p .quit) (still NONE Quit (p .game))
       (record { first = due .first; second = due .second; passed = record { refusal = NONE; answer = GoingOn; game = paced (p .game) due } })
 

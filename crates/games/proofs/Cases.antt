@@ -1,8 +1,8 @@
 -- The marked cases, each proved where its rule stands. Assumes nothing.
-use Rattle.pace.proofs.Wrap.{due-across-wrap, not-due-across-wrap}
 use Rattle.mine_rules.proofs.Start as Start
 use Rattle.mine_rules.proofs.Cases as Mine
 use Rattle.cutter_rules.proofs.Cases as Cutter
+use Rattle.cutter_pass.proofs.Cases as Pass
 use Rattle.games.proofs.Cut as Cut
 use Rattle.games.specs.Cases.{Cases}
 
@@ -22,5 +22,5 @@ cases =
       p11 = Cut.p11;
       p12 = Cutter.p12;
       p13 = Cutter.p13;
-      p14 = (due-across-wrap, not-due-across-wrap);
+      p14 = Pass.p14;
     }

@@ -13,7 +13,7 @@ use Rattle.cutter_joined.specs.Joined.{Right}
 use Rattle.cutter_joined.proofs.Certificate.{every4, cellOk, rightTest, right-by-test}
 use Rattle.cutter_closing.specs.Counted.{MAX-COMP, rootsFrom, counted, cellsIn}
 use Rattle.cutter_closing.specs.declared.Cut.{Cut}
-use Rattle.cutter_closing.specs.Closing.{claimLine, best, keptOf, claim, closeCut}
+use Rattle.cutter_closing.specs.Closing.{claimLine, best, keptOf, claim, remaining, closeCut}
 use Rattle.cutter_closing.proofs.Labels.{closing-by}
 use Rattle.cutter_state.specs.declared.Cutter.{Cutter}
 use Rattle.cutter_rules.specs.Ahead.{along}
@@ -95,6 +95,13 @@ closed-keeping es w k =
     ∙ ap (λ (rs : List ℕ). claim rs (keptOf sides es rs) (claimLine lineGrid) sides) roots
     ∙ ap keeping k
 
+-- and the creatures in it remain
+closed-count : (es : List Mover) (w : ℕ) → keptOf sides es both ≡ w → closeCut MAX-COMP lineGrid es .count ≡ length (remaining sides w es)
+closed-count es w k =
+    ap (λ (r : Cut). r .count) (closing-by MAX-COMP lineGrid sides es lined sides-right)
+    ∙ ap (λ (rs : List ℕ). length (remaining sides (keptOf sides es rs) es)) roots
+    ∙ ap (λ (r : ℕ). length (remaining sides r es)) k
+
 abbrev Ends : ℕ → ℕ → List ℕ → Type 0
 Ends claimed black g = (tally CB-FILLED g ≡ claimed) × (tally CB-BLACK g ≡ black)
 
@@ -110,6 +117,7 @@ right-kept = (refl, refl)
 record Cutting (c : Cutter) (es : List Mover) (n w : ℕ) : Type 0 where
   lay : again 30 stepped (going c freshGrid 0 false es n) ≡ going c lineGrid 30 true es n
   last : stepped (going c lineGrid 30 true es n) .grid ≡ closeCut MAX-COMP lineGrid es .grid
+  counts : stepped (going c lineGrid 30 true es n) .count ≡ closeCut MAX-COMP lineGrid es .count
   kept : keptOf sides es both ≡ w
 
 cut-keeping : {c : Cutter} {es : List Mover} {n w : ℕ} → Cutting c es n w → (s : Cutter) → s ≡ going c freshGrid 0 false es n → again 31 stepped s .grid ≡ keeping w
@@ -119,14 +127,22 @@ cut-keeping {es = es} {w = w} k s start =
     ∙ k .last
     ∙ closed-keeping es w (k .kept)
 
+cut-count : {c : Cutter} {es : List Mover} {n w : ℕ} → Cutting c es n w → (s : Cutter) → s ≡ going c freshGrid 0 false es n
+    → again 31 stepped s .count ≡ length (remaining sides w es)
+cut-count {es = es} {w = w} k s start =
+    ap (λ (x : Cutter). again 31 stepped x .count) start
+    ∙ ap (λ (x : Cutter). stepped x .count) (k .lay)
+    ∙ k .counts
+    ∙ closed-count es w (k .kept)
+
 module _ (c : Cutter) (vx vy : ℕ) where
   cutting-west : Cutting c (west vx vy ∷ []) 1 65
   unfolding stepped met trailingStep walkingStep atBorder cutClosed along freshGrid lineGrid best tally sides
-  cutting-west = record { lay = refl; last = refl; kept = refl }
+  cutting-west = record { lay = refl; last = refl; counts = refl; kept = refl }
 
   cutting-east : Cutting c (east vx vy ∷ []) 1 97
   unfolding stepped met trailingStep walkingStep atBorder cutClosed along freshGrid lineGrid best tally sides
-  cutting-east = record { lay = refl; last = refl; kept = refl }
+  cutting-east = record { lay = refl; last = refl; counts = refl; kept = refl }
 
   start-west : c .level ≡ 1 → directed (freshLevel c (9 ∷ 9 ∷ vx ∷ vy ∷ [])) DOWN ≡ going c freshGrid 0 false (west vx vy ∷ []) 1
   unfolding freshLevel atStart drawnMover table unitX unitY
@@ -139,6 +155,14 @@ module _ (c : Cutter) (vx vy : ℕ) where
   pub p9 : c .level ≡ 1 → Split 1118 930 (cutDown c (9 ∷ 9 ∷ vx ∷ vy ∷ []))
   p9 e = subst (Ends 1118 930) (sym (cut-keeping cutting-west (directed (freshLevel c (9 ∷ 9 ∷ vx ∷ vy ∷ [])) DOWN) (start-west e))) left-kept
 
+  -- its creature remains
+  remaining-west : length (remaining sides 65 (west vx vy ∷ [])) ≡ 1
+  unfolding remaining sides
+  remaining-west = refl
+
+  pub p9-count : c .level ≡ 1 → cutDown c (9 ∷ 9 ∷ vx ∷ vy ∷ []) .count ≡ 1
+  p9-count e = cut-count cutting-west (directed (freshLevel c (9 ∷ 9 ∷ vx ∷ vy ∷ [])) DOWN) (start-west e) ∙ remaining-west
+
   pub p10 : c .level ≡ 1 → Split 1148 900 (cutDown c (49 ∷ 9 ∷ vx ∷ vy ∷ []))
   p10 e = subst (Ends 1148 900) (sym (cut-keeping cutting-east (directed (freshLevel c (49 ∷ 9 ∷ vx ∷ vy ∷ [])) DOWN) (start-east e))) right-kept
 
@@ -150,7 +174,7 @@ module _ (c : Cutter) (vx vy : ℕ) where
 
     cutting-both : Cutting c (west vx vy ∷ east wx wy ∷ []) 2 65
     unfolding stepped met trailingStep walkingStep atBorder cutClosed along freshGrid lineGrid
-    cutting-both = record { lay = refl; last = refl; kept = kept-both }
+    cutting-both = record { lay = refl; last = refl; counts = refl; kept = kept-both }
 
     start-both : c .level ≡ 2 → directed (freshLevel c (9 ∷ 9 ∷ vx ∷ vy ∷ 49 ∷ 9 ∷ wx ∷ wy ∷ [])) DOWN ≡ going c freshGrid 0 false (west vx vy ∷ east wx wy ∷ []) 2
     unfolding freshLevel atStart drawnMover table unitX unitY
@@ -158,3 +182,12 @@ module _ (c : Cutter) (vx vy : ℕ) where
 
     pub p11 : c .level ≡ 2 → Split 1118 930 (cutDown c (9 ∷ 9 ∷ vx ∷ vy ∷ 49 ∷ 9 ∷ wx ∷ wy ∷ []))
     p11 e = subst (Ends 1118 930) (sym (cut-keeping cutting-both (directed (freshLevel c (9 ∷ 9 ∷ vx ∷ vy ∷ 49 ∷ 9 ∷ wx ∷ wy ∷ [])) DOWN) (start-both e))) left-kept
+
+    -- of the two the one on the left
+    remaining-both : length (remaining sides 65 (west vx vy ∷ east wx wy ∷ [])) ≡ 1
+    unfolding remaining sides
+    remaining-both = refl
+
+    pub p11-count : c .level ≡ 2 → cutDown c (9 ∷ 9 ∷ vx ∷ vy ∷ 49 ∷ 9 ∷ wx ∷ wy ∷ []) .count ≡ 1
+    p11-count e =
+        cut-count cutting-both (directed (freshLevel c (9 ∷ 9 ∷ vx ∷ vy ∷ 49 ∷ 9 ∷ wx ∷ wy ∷ [])) DOWN) (start-both e) ∙ remaining-both

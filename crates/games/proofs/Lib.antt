@@ -8,3 +8,4 @@ pub mod CutterCalls
 pub mod CutterAccounts
 pub mod WrongPorts
 pub mod Several
+pub mod CutAccounts

@@ -1,11 +1,9 @@
 -- Document 01's marked cases, theorems about the games' definitions.
-use mathlib.Core.Bool.{true, false}
 use mathlib.Core.List.{List, [], _∷_}
 use mathlib.Core.Path.{_≡_}
 use Prim.Native.Nat.{ℕ, zero, suc}
 use lib.IntN.{pos, negsuc}
 use lib.ListN.{set}
-use Rattle.pace.specs.Pace.{dueAt}
 use Rattle.mine_state.specs.declared.Mine.{Mine}
 use Rattle.mine_rules.specs.Load.{loaded}
 use Rattle.mine_rules.specs.Move.{moved}
@@ -18,6 +16,7 @@ use Rattle.cutter_state.specs.Change.{withGrid}
 use Rattle.cutter_rules.specs.Level.{freshGrid, freshLevel}
 use Rattle.cutter_rules.specs.Step.{directed, stepped}
 use Rattle.cutter_rules.specs.Tick.{enemiesStepped}
+use Rattle.cutter_pass.specs.Cases.{P14}
 use Rattle.controls.specs.Keys.{RIGHT, DOWN}
 
 -- a fresh level, down 31 steps
@@ -59,5 +58,5 @@ pub record Cases : Type 0 where
   pub p13 : (c : Cutter) → c .level ≡ 1 →
       let corner : Cutter = withGrid (freshLevel c (9 ∷ 9 ∷ 1 ∷ 1 ∷ [])) (set freshGrid (place 11 11) CB-FILLED) in
       enemiesStepped corner ≡ corner
-  -- mark 4,294,967,000: step due at 2,399,704, not at 2,399,703
-  pub p14 : (dueAt 2399704 4294967000 2400000 ≡ true) × (dueAt 2399703 4294967000 2400000 ≡ false)
+  -- mark 4,294,967,000: step due at 2,399,704, not at 2,399,703 (cutter_pass/specs/Cases.antt)
+  pub p14 : P14

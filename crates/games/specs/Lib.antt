@@ -7,3 +7,4 @@ pub mod CutterAccounts
 pub mod WrongPorts
 pub mod Engines
 pub mod Several
+pub mod CutAccounts
