@@ -15,23 +15,27 @@ use Rattle.cutter.specs.declared.calls.CutterAnswer.{CutterAnswer}
 use Rattle.cutter.specs.Calls.{stepCall}
 use Rattle.cutter_state.specs.State.{claimedIn}
 
-module _ (port : Mine → ℕ → MineAnswer) where
-  abbrev pub Keeps : Type 0
-  Keeps = (m : Mine) (dir : ℕ) → port m dir ≡ moveCall m dir
+-- no port of the move that keeps the promise does one of these
+pub record WrongMove (port : Mine → ℕ → MineAnswer) : Type 0 where
+  pub refuses-always : ((m : Mine) (dir : ℕ) → port m dir .refusal ≡ NONE → ⊥) → ⊥
+  pub loaded-always : ((m : Mine) (dir : ℕ) → port m dir .game ≡ loaded) → ⊥
+  pub does-nothing : ((m : Mine) (dir : ℕ) → port m dir .game ≡ m) → ⊥
+  -- plays a first call and idles at the second
+  pub idles-then : ((m : Mine) (a b : ℕ) → port (port m a .game) b .game ≡ port m a .game) → ⊥
+  -- plays on one state, as the loaded one, and idles on every other
+  pub idles-elsewhere : (s : Mine) → ((m : Mine) (dir : ℕ) → (m ≡ s → ⊥) → port m dir .game ≡ m) → ⊥
+  pub invents-a-coin : (m : Mine) (dir : ℕ) → WellFormed m → (purse (port m dir .game) ≡ purse m → ⊥) → ⊥
 
-  -- no port that keeps the promise does one of these
-  pub record Wrong : Type 0 where
-    pub refuses-always : ((m : Mine) (dir : ℕ) → port m dir .refusal ≡ NONE → ⊥) → ⊥
-    pub loaded-always : ((m : Mine) (dir : ℕ) → port m dir .game ≡ loaded) → ⊥
-    pub does-nothing : ((m : Mine) (dir : ℕ) → port m dir .game ≡ m) → ⊥
-    -- plays a first call and idles at the second
-    pub idles-then : ((m : Mine) (a b : ℕ) → port (port m a .game) b .game ≡ port m a .game) → ⊥
-    pub invents-a-coin : (m : Mine) (dir : ℕ) → WellFormed m → (purse (port m dir .game) ≡ purse m → ⊥) → ⊥
-
--- and no port of the step that keeps its promise claims another cell than its closing does
-abbrev pub NoCellInvented : (Cutter → CutterAnswer) → Type 0
-NoCellInvented port = (c : Cutter) → WF.WellFormed c → (claimedIn (port c .game) ≡ claimedIn c + stepClaims c → ⊥) → ⊥
+-- and none of the step
+pub record WrongStep (port : Cutter → CutterAnswer) : Type 0 where
+  pub refuses-always : ((c : Cutter) → port c .refusal ≡ NONE → ⊥) → ⊥
+  pub one-state-always : (s : Cutter) → ((c : Cutter) → port c .game ≡ s) → ⊥
+  pub does-nothing : ((c : Cutter) → port c .game ≡ c) → ⊥
+  pub idles-then : ((c : Cutter) → port (port c .game) .game ≡ port c .game) → ⊥
+  pub idles-elsewhere : (s : Cutter) → ((c : Cutter) → (c ≡ s → ⊥) → port c .game ≡ c) → ⊥
+  -- claims another cell than its closing does
+  pub invents-a-cell : (c : Cutter) → WF.WellFormed c → (claimedIn (port c .game) ≡ claimedIn c + stepClaims c → ⊥) → ⊥
 
 pub record WrongPorts : Type 0 where
-  pub move : (port : Mine → ℕ → MineAnswer) → Keeps port → Wrong port
-  pub step : (port : Cutter → CutterAnswer) → ((c : Cutter) → port c ≡ stepCall c) → NoCellInvented port
+  pub move : (port : Mine → ℕ → MineAnswer) → ((m : Mine) (dir : ℕ) → port m dir ≡ moveCall m dir) → WrongMove port
+  pub step : (port : Cutter → CutterAnswer) → ((c : Cutter) → port c ≡ stepCall c) → WrongStep port
