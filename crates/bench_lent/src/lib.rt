@@ -1,5 +1,5 @@
-// What the rules on a state call, on lent arrays, for bench/ to measure. It stands apart from `measured`, since what two exports of one
-// library share is compiled as a call of its own. Block Cutter here, on a lent ground.
+// What the rules on a state call, on lent arrays, for bench/ to measure. It stands apart from `bench_rules`, since what two exports of one
+// library share is compiled as a call of its own. They have a `requires`, so no host links them. Block Cutter here, on a lent ground.
 mod mines;
 
 use cutter_ground::CN;

@@ -1,3 +1,3 @@
-// The rules that bench/ measures, under plain names: without the check, and the check by itself.
+// The rules that bench/ measures, under plain names: without the check, and the check by itself. Some have a `requires`, so no host links them.
 mod cuts;
 mod mines;
