@@ -10,11 +10,11 @@ ghost use Rattle.cutter_state.specs.WellFormed.{WellFormed, refusalOf};
 ghost use Rattle.cutter_rules.specs.Level.{drawsOk, creaturesOf, freshLevel};
 ghost use Rattle.cutter_rules.specs.Step.{stepped, respawned};
 ghost use Rattle.cutter_rules.specs.Tick.{enemiesStepped};
-ghost use Rattle.cutter_keeps.specs.Sweeps.{sweptStep};
 ghost use Rattle.cutter_moves.specs.CodeMoves.{OnGrid};
 ghost use Rattle.cutter_picture.specs.Picture.{cutLit};
 ghost use Rattle.cutter_picture.specs.CodePicture.{Drawable};
 ghost use Rattle.cutter_ground.specs.Cells.{place};
+ghost use Rattle.cutter_rules.specs.Sweeps.{sweptStep};
 
 // The copies of a state in and out, and nothing else.
 #[no_mangle]

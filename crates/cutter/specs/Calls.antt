@@ -13,12 +13,12 @@ use Rattle.cutter_state.specs.WellFormed.{MAX-LIVES, refusalOf}
 use Rattle.cutter_rules.specs.Level.{creaturesOf, drawsOk, freshLevel}
 use Rattle.cutter_rules.specs.Step.{directed, stepped, respawned}
 use Rattle.cutter_rules.specs.Tick.{enemiesStepped}
-use Rattle.cutter_keeps.specs.Sweeps.{sweptStep}
 use Rattle.cutter.specs.declared.calls.CutterAnswer.{CutterAnswer}
 use Rattle.cutter.specs.declared.calls.Ground.{Ground}
 use Rattle.cutter_state.specs.State.{blackIn, claimedIn, lineIn, shareIn}
 use Rattle.cutter_ground.specs.Movers.{slots}
 use Rattle.controls.specs.Keys.{LEFT}
+use Rattle.cutter_rules.specs.Sweeps.{sweptStep}
 
 -- a refused call returns the number and the state it got
 abbrev pub refused : Cutter → ℕ → CutterAnswer

@@ -5,9 +5,9 @@ use native.Mathlib.Omega.{arith}
 use Rattle.laws.proofs.Choice.{bool-cases}
 use Rattle.cutter_state.specs.declared.Cutter.{Cutter}
 use Rattle.cutter_state.specs.WellFormed.{WellFormed}
-use Rattle.cutter_rules.specs.Step.{stepped}
+use Rattle.cutter_rules.specs.Step.{stepped, closes}
 use Rattle.cutter_keeps.specs.Kept.{Kept, Laid, Erased}
-use Rattle.cutter_keeps.specs.Steps.{closes, lays, stepClaims, stepLoses, Stepped, Accounts}
+use Rattle.cutter_keeps.specs.Steps.{lays, stepClaims, stepLoses, Stepped, Accounts}
 use Rattle.cutter_keeps.proofs.Steps.{step-stepped}
 
 pub kept-accounts : {c s : Cutter} → Kept c s → Accounts c s 0 0

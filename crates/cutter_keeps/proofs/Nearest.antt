@@ -16,9 +16,8 @@ use Rattle.cutter_state.specs.declared.Cutter.{Cutter}
 use Rattle.cutter_state.specs.State.{creatures, lineIn}
 use Rattle.cutter_state.specs.WellFormed.{WellFormed}
 use Rattle.cutter_rules.specs.Level.{atStart}
-use Rattle.cutter_rules.specs.Step.{noDirection, playerCell, target, entered, cutClosed, atBorder, stepped, respawned, creatureAt}
+use Rattle.cutter_rules.specs.Step.{noDirection, playerCell, target, entered, cutClosed, atBorder, stepped, respawned, creatureAt, advances, closes}
 use Rattle.cutter_rules.proofs.Step.{place-cell}
-use Rattle.cutter_keeps.specs.Steps.{advances, closes}
 use Rattle.cutter_keeps.specs.Nearest.{Reappears, NearestKept}
 use Rattle.cutter_keeps.proofs.Border.{standing}
 use Rattle.cutter_keeps.proofs.Closing.{cut-closed}

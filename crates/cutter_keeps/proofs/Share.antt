@@ -8,8 +8,8 @@ use Rattle.laws.proofs.Choice.{bool-cases}
 use Rattle.cutter_state.specs.declared.Cutter.{Cutter}
 use Rattle.cutter_state.specs.State.{claimedIn, shareOf, shareIn}
 use Rattle.cutter_state.specs.WellFormed.{WellFormed}
-use Rattle.cutter_rules.specs.Step.{stepped, respawned}
-use Rattle.cutter_keeps.specs.Steps.{closes, lays}
+use Rattle.cutter_rules.specs.Step.{stepped, respawned, closes}
+use Rattle.cutter_keeps.specs.Steps.{lays}
 use Rattle.cutter_keeps.specs.Share.{ShareKept}
 use Rattle.cutter_keeps.proofs.Steps.{step-stepped}
 use Rattle.cutter_keeps.proofs.Respawn.{respawn-erased}

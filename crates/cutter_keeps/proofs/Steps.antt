@@ -19,9 +19,9 @@ use Rattle.cutter_ground.specs.Cells.{CN, CB-BLACK, CB-FILLED, CB-TRAIL, cellAt
 use Rattle.cutter_state.specs.declared.Cutter.{Cutter}
 use Rattle.cutter_state.specs.State.{creatures}
 use Rattle.cutter_state.specs.WellFormed.{isCode, isTrail, WellFormed}
-use Rattle.cutter_rules.specs.Step.{noDirection, target, trailingStep, walkingStep, met, stepped, creatureAt}
+use Rattle.cutter_rules.specs.Step.{noDirection, target, trailingStep, walkingStep, met, stepped, creatureAt, advances, closes}
 use Rattle.cutter_keeps.specs.Kept.{Kept, Laid, Closed}
-use Rattle.cutter_keeps.specs.Steps.{advances, closes, ClosesStep, lays, takenBy, goneBy, Stepped}
+use Rattle.cutter_keeps.specs.Steps.{ClosesStep, lays, takenBy, goneBy, Stepped}
 use Rattle.cutter_keeps.proofs.Changes.{kept-self, kept-player, kept-direction, kept-dead}
 use Rattle.cutter_keeps.proofs.Closing.{closing}
 use Rattle.cutter_keeps.proofs.Creatures.{cell-holds}

@@ -16,10 +16,9 @@ use Rattle.cutter_closing.proofs.Labels.{length-claimLine, closing-by}
 use Rattle.cutter_state.specs.declared.Cutter.{Cutter}
 use Rattle.cutter_state.specs.State.{creatures}
 use Rattle.cutter_state.specs.Change.{withGrid, withCreatures, withTrailing}
-use Rattle.cutter_rules.specs.Step.{target, entered, cutClosed, atBorder, stepped}
-use Rattle.cutter_keeps.specs.Steps.{closes}
-use Rattle.cutter_keeps.specs.Sweeps.{cutSwept, sweptStep}
+use Rattle.cutter_rules.specs.Step.{target, entered, cutClosed, atBorder, stepped, closes}
 use Rattle.cutter_keeps.proofs.Steps.{closes-step}
+use Rattle.cutter_rules.specs.Sweeps.{cutSwept, sweptStep}
 
 -- by any settled numbers, for every limit
 pub swept-closed : (limit : ℕ) (g L : List ℕ) (es : List Mover) → length g ≡ CN → Settled (claimLine g) L → closed limit (claimLine g) L es ≡ closeCut limit g es

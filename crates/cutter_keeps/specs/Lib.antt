@@ -1,5 +1,4 @@
 pub mod Kept
 pub mod Steps
 pub mod Nearest
-pub mod Sweeps
 pub mod Share

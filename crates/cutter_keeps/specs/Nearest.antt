@@ -8,8 +8,7 @@ use Rattle.cutter_border.specs.Nearest.{Unreached, Nearest}
 use Rattle.cutter_state.specs.declared.Cutter.{Cutter}
 use Rattle.cutter_state.specs.State.{lineIn}
 use Rattle.cutter_state.specs.WellFormed.{WellFormed}
-use Rattle.cutter_rules.specs.Step.{playerCell, target, stepped, respawned}
-use Rattle.cutter_keeps.specs.Steps.{closes}
+use Rattle.cutter_rules.specs.Step.{playerCell, target, stepped, respawned, closes}
 
 -- from the claimed cell a, with no line on the map, the player has gone to where s has it: the nearest cell, of which there is one; a itself,
 -- if a is beside black or no such cell can be reached

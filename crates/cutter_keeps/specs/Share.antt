@@ -5,9 +5,8 @@ use Prim.Native.Nat.{_≤_}
 use Rattle.cutter_state.specs.declared.Cutter.{Cutter}
 use Rattle.cutter_state.specs.State.{shareIn}
 use Rattle.cutter_state.specs.WellFormed.{WellFormed}
-use Rattle.cutter_rules.specs.Step.{stepped, respawned}
+use Rattle.cutter_rules.specs.Step.{stepped, respawned, closes}
 use Rattle.cutter_keeps.specs.Kept.{Fresh}
-use Rattle.cutter_keeps.specs.Steps.{closes}
 
 pub record ShareKept : Type 0 where
   -- a fresh level has none

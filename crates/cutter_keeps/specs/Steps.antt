@@ -1,25 +1,15 @@
 -- When a step closes a cut and when it lays line, and what a step does to the accounts.
-use mathlib.Core.Bool.{Bool, true, false, cond, not, _&&_}
+use mathlib.Core.Bool.{Bool, true, false, cond, _&&_}
 use mathlib.Core.Path.{_≡_}
 use Prim.Native.Nat.{ℕ, _+_}
-use lib.Dec.{ltb}
-use Rattle.found.specs.First.{nobody}
-use Rattle.cutter_ground.specs.Cells.{CN, blackAt, claimedAt}
+use Rattle.cutter_ground.specs.Cells.{blackAt}
 use Rattle.cutter_closing.specs.Counted.{MAX-COMP}
 use Rattle.cutter_closing.specs.Account.{takenOf, goneOf}
 use Rattle.cutter_state.specs.declared.Cutter.{Cutter}
 use Rattle.cutter_state.specs.State.{creatures, claimedIn, lineIn}
 use Rattle.cutter_state.specs.WellFormed.{WellFormed}
-use Rattle.cutter_rules.specs.Step.{noDirection, target, creatureAt, entered, cutClosed, atBorder, stepped}
+use Rattle.cutter_rules.specs.Step.{target, entered, cutClosed, atBorder, stepped, advances, closes}
 use Rattle.cutter_keeps.specs.Kept.{Kept, Laid, Closed}
-
--- the player has a direction, to a cell of the grid where no creature is
-unfoldable pub advances : Cutter → Bool
-advances c = not (noDirection c) && ltb (target c) CN && nobody (creatureAt (creatures c) (target c))
-
--- a step closes the cut: trailing, to a claimed cell
-unfoldable pub closes : Cutter → Bool
-closes c = advances c && (c .trailing && claimedAt (c .grid) (target c))
 
 -- that is the step of document 01 that enters, closes the cut and then moves to the border
 abbrev pub ClosesStep : Type 0

@@ -8,7 +8,6 @@ ghost use Rattle.cutter_ground.specs.Cells.{CN};
 ghost use Rattle.cutter_state.specs.Change.{withDirection};
 ghost use Rattle.cutter_state.specs.WellFormed.{isZero, WellFormed};
 ghost use Rattle.cutter_rules.specs.Step.{directed, trailingStep, walkingStep, stepped, lineErased, respawned};
-ghost use Rattle.cutter_keeps.specs.Sweeps.{sweptStep};
 ghost use Rattle.cutter_moves.specs.CodeSteps.{playing, laying, Lends, Walks, Makes, Decides, Stepped, SteppedOn};
 use crate::ahead::diagonal_of;
 use crate::enemies::enemy_at;
@@ -31,6 +30,7 @@ use cutter_ground::on_border;
 use cutter_level::at_start;
 use cutter_state::Cutter;
 use found::Found;
+ghost use Rattle.cutter_rules.specs.Sweeps.{sweptStep};
 
 fn turn_to(c: Cutter, dx: i8, dy: i8) -> Cutter
     ensures { λ r. ⌜ r ≡ withDirection c dx dy ⌝ }

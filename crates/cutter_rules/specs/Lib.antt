@@ -2,3 +2,4 @@ pub mod Ahead
 pub mod Level
 pub mod Step
 pub mod Tick
+pub mod Sweeps

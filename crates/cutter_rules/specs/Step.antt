@@ -1,8 +1,8 @@
 -- Block Cutter: the direction call, and the player's step.
-use mathlib.Core.Bool.{Bool, true, false, cond, _&&_}
+use mathlib.Core.Bool.{Bool, true, false, cond, _&&_, not}
 use mathlib.Core.List.{List, map}
 use Prim.Native.Nat.{ℕ, zero, suc, _/_, _%_}
-use lib.Dec.{eqb, leb}
+use lib.Dec.{eqb, leb, ltb}
 use lib.IntN.{ℤ, pos, negsuc}
 use lib.ListN.{set}
 use Rattle.found.specs.declared.Found.{Found}
@@ -18,7 +18,7 @@ use Rattle.cutter_border.proofs.Nearest.{nearest}
 use Rattle.cutter_rules.specs.Ahead.{diagonalOf}
 use Rattle.cutter_rules.specs.Level.{atStart}
 use Rattle.cutter_ground.specs.declared.Mover.{Mover}
-use Rattle.found.specs.First.{first}
+use Rattle.found.specs.First.{first, nobody}
 use Rattle.cutter_ground.specs.Movers.{placeOf}
 
 -- ---- direction
@@ -106,6 +106,14 @@ unfoldable pub stepped : Cutter → Cutter
 stepped c =
     cond (noDirection c) c
     (cond (leb CN (target c)) (stopped c) (met (creatureAt (creatures c) (target c)) c (target c)))
+
+-- the player has a direction, to a cell of the grid where no creature is
+unfoldable pub advances : Cutter → Bool
+advances c = not (noDirection c) && ltb (target c) CN && nobody (creatureAt (creatures c) (target c))
+
+-- a step closes the cut: trailing, to a claimed cell
+unfoldable pub closes : Cutter → Bool
+closes c = advances c && (c .trailing && claimedAt (c .grid) (target c))
 
 -- ---- respawn
 

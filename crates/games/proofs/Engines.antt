@@ -9,11 +9,11 @@ use Rattle.cutter_state.specs.State.{creatures}
 use Rattle.cutter_state.specs.WellFormed.{refusalOf}
 use Rattle.cutter_state.proofs.Facts.{accepted}
 use Rattle.cutter_rules.specs.Step.{stepped}
-use Rattle.cutter_keeps.specs.Sweeps.{sweptStep}
 use Rattle.cutter_keeps.proofs.Sweeps.{swept-closed, swept-step}
 use Rattle.cutter.specs.declared.calls.CutterAnswer.{CutterAnswer}
 use Rattle.cutter.specs.Calls.{refused, answered, stepCall, sweepsCall}
 use Rattle.games.specs.Engines.{Engines}
+use Rattle.cutter_rules.specs.Sweeps.{sweptStep}
 
 pub sweeps-call : (c : Cutter) → sweepsCall c ≡ stepCall c
 unfolding sweepsCall stepCall

@@ -8,8 +8,8 @@ use Rattle.cutter_closing.specs.Closing.{claimLine, closed, closeCut}
 use Rattle.cutter_state.specs.declared.Cutter.{Cutter}
 use Rattle.cutter_state.specs.State.{creatures}
 use Rattle.cutter_state.specs.WellFormed.{WellFormed}
-use Rattle.cutter_keeps.specs.Steps.{closes}
 use Rattle.cutter.specs.Calls.{stepCall, sweepsCall}
+use Rattle.cutter_rules.specs.Step.{closes}
 
 pub record Engines : Type 0 where
   -- on every well-formed state whose player is about to close, for every limit, however many regions there are: by the numbers L that sweeps

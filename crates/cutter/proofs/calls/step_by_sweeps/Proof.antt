@@ -3,10 +3,10 @@ use mathlib.Core.Path.{ap, sym, _∙_}
 use borrow.Author.Needs.{needs}
 use Rattle.refusal.proofs.Calls.{turned-away, let-in}
 use Rattle.cutter_state.proofs.Facts.{accepted}
-use Rattle.cutter_keeps.specs.Sweeps.{sweptStep}
 use Rattle.cutter.specs.Calls.{refused, answered, sweepsCall}
 use Rattle.cutter.proofs.calls.step_by_sweeps.Statement.{statement}
 use Rattle.cutter.proofs.calls.step_by_sweeps.Tie as tie
+use Rattle.cutter_rules.specs.Sweeps.{sweptStep}
 
 returns : tie.Need-returns
 unfolding sweepsCall

@@ -1,17 +1,16 @@
--- A step that closes its cut by sweeps, the trainer's way.
-use mathlib.Core.Bool.{false, cond}
+-- Block Cutter: a step that closes its cut by sweeps, the trainer's way.
 use mathlib.Core.List.{List}
+use mathlib.Core.Bool.{cond, false}
 use Prim.Native.Nat.{ℕ}
-use Rattle.cutter_ground.specs.declared.Mover.{Mover}
-use Rattle.cutter_sweeps.proofs.Low.{settled}
-use Rattle.cutter_closing.specs.Counted.{MAX-COMP}
-use Rattle.cutter_closing.specs.Closing.{claimLine, closed}
 use Rattle.cutter_closing.specs.declared.Cut.{Cut}
 use Rattle.cutter_state.specs.declared.Cutter.{Cutter}
+use Rattle.cutter_closing.specs.Counted.{MAX-COMP}
+use Rattle.cutter_ground.specs.declared.Mover.{Mover}
+use Rattle.cutter_rules.specs.Step.{atBorder, closes, entered, stepped, target}
+use Rattle.cutter_closing.specs.Closing.{claimLine, closed}
 use Rattle.cutter_state.specs.State.{creatures}
-use Rattle.cutter_state.specs.Change.{withGrid, withCreatures, withTrailing}
-use Rattle.cutter_rules.specs.Step.{target, entered, atBorder, stepped}
-use Rattle.cutter_keeps.specs.Steps.{closes}
+use Rattle.cutter_sweeps.proofs.Low.{settled}
+use Rattle.cutter_state.specs.Change.{withCreatures, withGrid, withTrailing}
 
 -- the closing of the grid g by the numbers that sweeps leave
 abbrev pub sweptCut : ℕ → List ℕ → List Mover → Cut
