@@ -5,7 +5,8 @@ use mathlib.Core.Path.{_≡_, refl, sym, _∙_}
 use Prim.Native.Nat.{ℕ, _+_, _<_}
 use native.Mathlib.Omega.{arith}
 use lib.Dec.{eqb, leb}
-use borrow.Author.Tests.{eqb-true, eqb-false, eq-eqb, ne-eqb}
+use lib.ListN.{getD}
+use borrow.Author.Tests.{eqb-true, eqb-false, eq-eqb, ne-eqb, lt-leb}
 use Rattle.laws.proofs.Choice.{and-left, or-left, or-right}
 use Rattle.found.specs.First.{nobody}
 use Rattle.found.specs.declared.Found.{Found}
@@ -15,18 +16,28 @@ use Rattle.mine_apart.specs.CodeApart.{firstSpot, freeSpot, Stand}
 use Rattle.mine_state.proofs.Cells.{empty-inside}
 use Rattle.mine_apart.proofs.Places.{free-spot, player-spot, first-spot}
 use Rattle.mine_rules.specs.Gravity.{isObject, rested, openSide, overOther, cellFall}
-use Rattle.mine_fall.specs.CodeFalls.{Quietly, openSpot, lent}
+use Rattle.mine_fall.specs.CodeFalls.{Barely, stirs, Quietly, openSpot, lent}
 
 below-but : (j x : ℕ) → j < x + 1 → (j ≡ x → ⊥) → j < x
 below-but j x h a = omega arith
 
--- a row without objects, a turn at a time: b is what the loop has seen, o what the cell at x adds
-pub quiet-more : (g : List ℕ) (y x : ℕ) (b : Bool) {o : Bool} → (b ≡ false → Quietly g y x) → o ≡ isObject (codeIn g x y) → (b || o) ≡ false → Quietly g y (x + 1)
-quiet-more g y x b {o} f e n j h = go (eqb j x) refl
+-- a test that fails at each cell of a row, a turn at a time: b is what the loop has seen, o what the cell at x adds
+pub none-more : (test : ℕ → Bool) (x : ℕ) (b : Bool) {o : Bool} → (b ≡ false → (j : ℕ) → j < x → test j ≡ false) → o ≡ test x → (b || o) ≡ false → (j : ℕ) → j < x + 1
+    → test j ≡ false
+none-more test x b {o} f e n j h = go (eqb j x) refl
   where
-    go : (t : Bool) → eqb j x ≡ t → isObject (codeIn g j y) ≡ false
+    go : (t : Bool) → eqb j x ≡ t → test j ≡ false
     go true q = rw (eqb-true j x q) (sym e ∙ or-right b o n)
     go false q = let a = eqb-false j x q in f (or-left b o n) j (below-but j x h a)
+
+-- above the last row
+pub stirs-over : (g : List ℕ) (f : List Bool) (x y : ℕ) → y + 1 < H
+    → (isObject (codeIn g x y) && (eqb (codeIn g x (y + 1)) EMPTY || isObject (codeIn g x (y + 1)) || getD f (place x y) false)) ≡ stirs g f x y
+stirs-over g f x y h = rw (lt-leb H (y + 1) h)
+
+-- a row without objects
+pub bare-quiet : (g : List ℕ) (f : List Bool) (y : ℕ) → Barely g y W → Quietly g f y W
+bare-quiet g f y b x h = rw (b x h)
 
 -- the lent grid and marks change nothing of where everyone stands
 pub stand-lent : {m : Mine} {spots : List ℕ} {player : ℕ} → Stand m spots player → (g : List ℕ) (f : List Bool) → Stand (lent m g f) spots player

@@ -1,11 +1,12 @@
 -- What the functions over the lent grid, marks and places tell, for `gravity_on` to put together. No promise cites it.
-use mathlib.Core.Bool.{Bool, false, _&&_}
+use mathlib.Core.Bool.{Bool, false, _&&_, _||_}
 use mathlib.Core.List.{List}
 use mathlib.Core.Path.{_≡_}
 use Prim.Native.Nat.{ℕ, _+_, _<_}
-use lib.ListN.{length}
+use lib.Dec.{eqb, leb}
+use lib.ListN.{length, getD}
 use Rattle.mine_state.specs.declared.Mine.{Mine}
-use Rattle.mine_state.specs.State.{AREA, MAX-ENEMIES, codeIn}
+use Rattle.mine_state.specs.State.{H, AREA, MAX-ENEMIES, EMPTY, place, codeIn}
 use Rattle.mine_apart.specs.CodeApart.{freeSpot, Stand}
 use Rattle.mine_state.specs.Change.{withGrid, withMarks, withCoins, killed}
 use Rattle.mine_fall.specs.declared.cells.Fell.{Fell}
@@ -33,8 +34,16 @@ abbrev pub openSpot : List ℕ → List ℕ → ℕ → ℕ → ℕ → ℕ → 
 openSpot g spots player x y by = freeSpot g spots player x y && freeSpot g spots player x by
 
 -- the first n cells of the row y hold no object
-abbrev pub Quietly : List ℕ → ℕ → ℕ → Type 0
-Quietly g y n = (x : ℕ) → x < n → isObject (codeIn g x y) ≡ false
+abbrev pub Barely : List ℕ → ℕ → ℕ → Type 0
+Barely g y n = (x : ℕ) → x < n → isObject (codeIn g x y) ≡ false
+
+-- an object that can stir: in the last row, over an empty cell or an object, or marked
+abbrev pub stirs : List ℕ → List Bool → ℕ → ℕ → Bool
+stirs g f x y = isObject (codeIn g x y) && (leb H (y + 1) || eqb (codeIn g x (y + 1)) EMPTY || isObject (codeIn g x (y + 1)) || getD f (place x y) false)
+
+-- the first n cells of the row y hold none
+abbrev pub Quietly : List ℕ → List Bool → ℕ → ℕ → Type 0
+Quietly g f y n = (x : ℕ) → x < n → stirs g f x y ≡ false
 
 -- the state m with the grid g and the marks f
 abbrev pub lent : Mine → List ℕ → List Bool → Mine

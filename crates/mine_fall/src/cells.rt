@@ -16,7 +16,7 @@ ghost use Rattle.mine_state.specs.State.{W};
 ghost use Rattle.mine_apart.specs.CodeApart.{Lent};
 ghost use Rattle.mine_fall.specs.declared.cells.Fell.the-variants.{Quiet};
 ghost use Rattle.mine_rules.specs.Gravity.{isObject, carried, overPlayer, overEmpty, rolled, cellFall};
-ghost use Rattle.mine_fall.specs.CodeFalls.{LentCell, LentCells, Reached, openSpot, Quietly, Does, Falls};
+ghost use Rattle.mine_fall.specs.CodeFalls.{LentCell, LentCells, Reached, openSpot, Barely, Quietly, Does, Falls};
 ghost use Rattle.mine_state.specs.CodeState.{CellOf};
 
 // What an object did, beside moving.
@@ -52,15 +52,37 @@ fn open_side(
 }
 
 // No cell of the row y holds an object.
-pub fn quiet(grid: &[u8; AREA], y: usize) -> bool
+fn bare(grid: &[u8; AREA], y: usize) -> bool
     requires { ⌜ CellOf (now grid) 0 y ⌝ }
-    ensures { λ r. ⌜ (r ≡ true → Quietly (now (grid .entry)) y W) ⌝ }
+    ensures { λ r. ⌜ (r ≡ true → Barely (now (grid .entry)) y W) ⌝ }
 {
     let mut some = false;
     let mut x: usize = 0;
     while x < W {
         let at = y * W + x;
         some = some | is_object(grid[at]);
+        x += 1;
+    }
+    !some
+}
+
+// Nothing in the row y can stir: each object is unmarked, and stands on something that is neither empty nor an object.
+pub fn quiet(grid: &[u8; AREA], falling: &[bool; AREA], y: usize) -> bool
+    requires { ⌜ LentCell (now grid) (now falling) 0 y ⌝ }
+    ensures { λ r. ⌜ (r ≡ true → Quietly (now (grid .entry)) (now (falling .entry)) y W) ⌝ }
+{
+    let by = y + 1;
+    if H <= by {
+        return bare(grid, y);
+    }
+    let mut some = false;
+    let mut x: usize = 0;
+    while x < W {
+        let at = y * W + x;
+        let j = by * W + x;
+        let below = grid[j];
+        let loose = (below == EMPTY) | is_object(below) | falling[at];
+        some = some | (is_object(grid[at]) & loose);
         x += 1;
     }
     !some

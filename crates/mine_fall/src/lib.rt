@@ -60,7 +60,8 @@ pub fn gravity_on(
     py: usize,
 ) -> Fallen
     requires { ⌜ Falling (now grid) (now falling) (now spots) (now dirs) s px py ⌝ }
-    ensures { λ r. ⌜ Dropped gravityOf px py (now (grid .entry)) (now (falling .entry)) (now (spots .entry)) (now (dirs .entry)) s (now (grid .exit)) (now (falling .exit)) (now (spots .exit)) (now (dirs .exit)) r ⌝ }
+    ensures { λ r. ⌜ Dropped gravityOf px py (now (grid .entry)) (now (falling .entry)) (now (spots .entry)) (now (dirs .entry)) s (now (grid .exit))
+        (now (falling .exit)) (now (spots .exit)) (now (dirs .exit)) r ⌝ }
 {
     let mut count = s.count;
     let mut coins = s.coins;
@@ -69,8 +70,8 @@ pub fn gravity_on(
     let mut y: usize = H;
     while 0 < y {
         y -= 1;
-        // Most rows hold no object, and one pass over the row tells.
-        if quiet(grid, y) {
+        // In most rows nothing can stir, and one pass over the row tells.
+        if quiet(grid, falling, y) {
             continue;
         }
         let mut x: usize = 0;

@@ -102,7 +102,8 @@ fn gravity_if(
     py: usize,
 ) -> Fallen
     requires { ⌜ Falling (now grid) (now falling) (now spots) (now dirs) s px py ⌝ }
-    ensures { λ r. ⌜ Dropped (λ m. cond due (gravityOf m) m) px py (now (grid .entry)) (now (falling .entry)) (now (spots .entry)) (now (dirs .entry)) s (now (grid .exit)) (now (falling .exit)) (now (spots .exit)) (now (dirs .exit)) r ⌝ }
+    ensures { λ r. ⌜ Dropped (λ m. cond due (gravityOf m) m) px py (now (grid .entry)) (now (falling .entry)) (now (spots .entry))
+        (now (dirs .entry)) s (now (grid .exit)) (now (falling .exit)) (now (spots .exit)) (now (dirs .exit)) r ⌝ }
 {
     if due {
         return gravity_on(grid, falling, spots, dirs, s, px, py);
@@ -149,17 +150,17 @@ fn go_on(m: Mine, keys: &[u8], time: u32, first: u32, second: u32) -> MineTurn
     ensures { λ r. ⌜ r ≡ afterKeys first second time (played m (now (keys .entry))) ⌝ }
 {
     let mut game = m;
-    let old = m.enemies;
-    let parts = parts_of(old, m.count);
+    let old = game.enemies;
+    let parts = parts_of(old, game.count);
     let mut spots = parts.spots;
     let mut dirs = parts.dirs;
     let p = Player {
-        px: m.px,
-        py: m.py,
-        coins: m.coins,
-        needed: m.needed,
-        dead: m.dead,
-        won: m.won,
+        px: game.px,
+        py: game.py,
+        coins: game.coins,
+        needed: game.needed,
+        dead: game.dead,
+        won: game.won,
     };
     let pressed = play(&mut game.grid, &spots, p, keys);
     let q = pressed.player;
@@ -176,9 +177,9 @@ fn go_on(m: Mine, keys: &[u8], time: u32, first: u32, second: u32) -> MineTurn
     if !(due.one | due.two) {
         return turn(first, second, refusal::NONE, Answer::GoingOn, game);
     }
-    let mut falling = m.falling;
+    let mut falling = game.falling;
     let s = Fallen {
-        count: m.count,
+        count: game.count,
         coins: q.coins,
         dead: q.dead,
     };

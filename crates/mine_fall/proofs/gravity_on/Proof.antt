@@ -24,8 +24,8 @@ use Rattle.mine_fall.proofs.cells.quiet.Reads as quiet-reads
 
 abbrev Inv-loop2 : tie.InvT-loop2
 Inv-loop2 grid₀ falling₀ spots₀ dirs₀ px py count₀ coins₀ dead₀ player y x₀ grid falling spots dirs count coins dead x =
-    (x ≤ W) × (y < H) × Apart count spots dirs × ((m : Mine)
-    → During (cellsLeft y 0 (whole m px py grid₀ falling₀ (joined count₀ spots₀ dirs₀) (numbers count₀ coins₀ dead₀))) (cellsLeft y x)
+    (x ≤ W) × (y < H) × Apart count spots dirs ×
+    ((m : Mine) → During (cellsLeft y 0 (whole m px py grid₀ falling₀ (joined count₀ spots₀ dirs₀) (numbers count₀ coins₀ dead₀))) (cellsLeft y x)
     (whole m px py grid falling (joined count spots dirs) (numbers count coins dead)))
 
 abbrev μ-loop2 : tie.MeasureT-loop2
@@ -33,8 +33,8 @@ abbrev μ-loop2 : tie.MeasureT-loop2
 
 abbrev Inv-loop : tie.InvT-loop
 Inv-loop grid₀ falling₀ spots₀ dirs₀ px py count₀ coins₀ dead₀ player y₀ grid falling spots dirs count coins dead y =
-    (y ≤ H) × Apart count spots dirs × ((m : Mine)
-    → During (gravityOf (whole m px py grid₀ falling₀ (joined count₀ spots₀ dirs₀) (numbers count₀ coins₀ dead₀))) (rowsLeft y)
+    (y ≤ H) × Apart count spots dirs ×
+    ((m : Mine) → During (gravityOf (whole m px py grid₀ falling₀ (joined count₀ spots₀ dirs₀) (numbers count₀ coins₀ dead₀))) (rowsLeft y)
     (whole m px py grid falling (joined count spots dirs) (numbers count coins dead)))
 
 abbrev μ-loop : tie.MeasureT-loop
@@ -73,7 +73,7 @@ Cell = lts.At-loop2 (
 ) reads.Pre reads.Post Inv-loop2 μ-loop2 Inv-loop μ-loop
 
 abbrev at-row : Cell → Row
-at-row c = c .before .before .before .before .before
+at-row c = c .before .before .before .before .before .before
 
 abbrev row : Cell → ℕ
 row c = at-row c .loop .y - 1
@@ -138,49 +138,50 @@ sub-y : tie.Need-sub-y Inv-loop2 μ-loop2 Inv-loop μ-loop
 sub-y c = omega arith
 
 quiet-requires : tie.Need-quiet-requires Inv-loop2 μ-loop2 Inv-loop μ-loop
-quiet-requires c κs = let k = c .before .before .loop in record { cells = k .inv .2 nothing .sound .cells; across = omega arith; down = omega (arith, k .inv .0) }
+quiet-requires c κs =
+    let k = c .before .before .before .loop in
+    let d = k .inv .2 nothing .sound in
+    record { cell = record { cells = d .cells; across = omega arith; down = omega (arith, k .inv .0, c .before .before .loop-test .taken) }; marks = d .marks }
 
 loop-less : tie.Need-loop-less Inv-loop2 μ-loop2 Inv-loop μ-loop
 loop-less c = omega arith
 
 loop-again : tie.Need-loop-again Inv-loop2 μ-loop2 Inv-loop μ-loop
 loop-again c =
-    let k = c .before .before .before .before in (
+    let k = c .before .before .before .before .before in
+    let h = c .before .before .before .before .loop-test .taken in (
       omega (arith, k .loop .inv .0),
       k .loop .inv .1,
-      λ m. row-passed (k .loop .y - 1) (row-state k m) (c .before .quiet .ensures (c .if1 .taken))
-          (row-begins (k .loop .y) (row-state k m) (c .before .before .before .loop-test .taken) (k .loop .inv .2 m)),
+      λ m. row-passed (k .loop .y - 1) (row-state k m) (c .before .quiet .ensures (c .if1 .taken)) (row-begins (k .loop .y) (row-state k m) h (k .loop .inv .2 m)),
     )
 
 loop2-holds : tie.Need-loop2-holds Inv-loop2 μ-loop2 Inv-loop μ-loop
 loop2-holds c =
-    let k = c .before .before .before .before in
-    (omega arith, omega (arith, k .loop .inv .0, c .before .before .before .loop-test .taken), k .loop .inv .1, λ m. record { sound = k .loop .inv .2 m .sound; same = refl })
+    let k = c .before .before .before .before .before in (
+      omega arith,
+      omega (arith, k .loop .inv .0, c .before .before .before .before .loop-test .taken),
+      k .loop .inv .1,
+      λ m. record { sound = k .loop .inv .2 m .sound; same = refl },
+    )
 
 loop-less-2 : tie.Need-loop-less-2 Inv-loop2 μ-loop2 Inv-loop μ-loop
-loop-less-2 c = omega (arith, c .before .before .before .before .before .loop-test .taken)
+loop-less-2 c = omega (arith, c .before .before .before .before .before .before .loop-test .taken)
 
 loop-again-2 : tie.Need-loop-again-2 Inv-loop2 μ-loop2 Inv-loop μ-loop
 loop-again-2 c =
     let k = c .before in
-    let o = at-row k in (
+    let o = at-row k in
+    let h = k .before .before .before .before .before .loop-test .taken in (
       omega (arith, k .loop2 .inv .1),
       k .loop2 .inv .2,
-      λ m. onwards (row-begins (o .loop .y) (row-state o m) (k .before .before .before .before .loop-test .taken) (o .loop .inv .2 m) .same)
-          (row-ends (row k) (k .loop2 .x) (state k m) (c .loop2-test .left) (k .loop2 .inv .3 m)),
+      λ m. onwards (row-begins (o .loop .y) (row-state o m) h (o .loop .inv .2 m) .same) (row-ends (row k) (k .loop2 .x) (state k m) (c .loop2-test .left) (k .loop2 .inv .3 m)),
     )
 
 cell-fall-requires : tie.Need-cell-fall-requires Inv-loop2 μ-loop2 Inv-loop μ-loop
 cell-fall-requires c κs =
     let k = c .before .before .before .before .loop2 in
     let d = k .inv .3 nothing in
-    record {
-      here = record {
-        cell = record { cells = d .sound .cells; across = c .before .before .before .loop2-test .taken; down = k .inv .1 };
-        marks = d .sound .marks;
-      };
-      slots = k .inv .2 .slots;
-    }
+    record { here = record { cell = record { cells = d .sound .cells; across = c .before .before .before .loop2-test .taken; down = k .inv .1 }; marks = d .sound .marks }; slots = k .inv .2 .slots }
 
 add-x : tie.Need-add-x Inv-loop2 μ-loop2 Inv-loop μ-loop
 add-x c = omega arith
