@@ -3,8 +3,8 @@
  * A call takes a state by value and gives one by value; nothing is kept between calls and nothing is allocated.
  * A refused call gives a number (SUMBADGER_CELLS and so on) and everything else as it came.
  *
- * A flag is a byte, 0 or 1. A state with any other byte in its place is refused before all other checks:
- * SUMBADGER_CELLS for a mark, then SUMBADGER_NUMBERS for dead, won or trailing. A state that a call gave has none.
+ * A flag is a byte, 0 or 1. A state with any other byte in its place is refused, in the order of the numbers below:
+ * SUMBADGER_CELLS for a mark or trailing, SUMBADGER_NUMBERS for dead, won or won_level. A state that a call gave has none.
  *
  * A pointer with a length points to so many bytes and is never NULL, not even where the length is 0; a frame is
  * not shared with anything else during the call. That is all a host has to see to: every other value is checked.
@@ -22,10 +22,10 @@ typedef __SIZE_TYPE__ sumbadger_size; /* size_t */
 /* Refusal numbers. They are checked in the order 1, 2, 3, 4, 5, 8, 7, 6. */
 enum {
     SUMBADGER_NONE = 0,
-    SUMBADGER_CELLS = 1,      /* a cell code, a mark, the ring, or line cells against trailing */
+    SUMBADGER_CELLS = 1,      /* a cell code, a mark, the ring, trailing, or line cells against it */
     SUMBADGER_PLAYER = 2,     /* the player's place, or Block Cutter's direction */
     SUMBADGER_CREATURES = 3,  /* a creature or their number */
-    SUMBADGER_NUMBERS = 4,    /* coins, needed, lives or level; dead, won or trailing */
+    SUMBADGER_NUMBERS = 4,    /* coins, needed, lives or level; dead, won or won_level */
     SUMBADGER_COMMAND = 5,    /* a direction command above 3 */
     SUMBADGER_FRAME = 6,      /* in a picture, a frame that isn't 1,024 bytes */
     SUMBADGER_DRAWS = 7,      /* draws: wrong number, or one out of range */

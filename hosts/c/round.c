@@ -75,14 +75,29 @@ static sumbadger_size stale_frame(unsigned long length) {
     return length < SUMBADGER_FRAME_LENGTH ? length : SUMBADGER_FRAME_LENGTH;
 }
 
-/* A call on a mine with a byte that may be no flag: the refusal, and whether every byte came back. */
-static void tried_mine(sumbadger_mine m) {
+/* A call on a bad mine (a mark, dead, won, the first cell, x, count, needed): the refusal, and whether every byte came back. */
+static void try_mine(sumbadger_mine m, const line *l) {
+    m.falling[SUMBADGER_MINE_CELLS - 1] = l->low[0];
+    m.dead = l->low[1];
+    m.won = l->low[2];
+    m.grid[0] = l->low[3];
+    m.px = l->numbers[4];
+    m.count = l->numbers[5];
+    m.needed = (unsigned int)l->numbers[6];
     sumbadger_mine_answer a = sumbadger_mine_gravity(m);
     put_number(a.refusal);
     put_number(mine_sum(&a.game) == mine_sum(&m));
 }
 
-static void tried_cutter(sumbadger_cutter c) {
+/* The same of a bad ground: trailing, dead, won, the first cell, x, count, lives. */
+static void try_cutter(sumbadger_cutter c, const line *l) {
+    c.trailing = l->low[0];
+    c.dead = l->low[1];
+    c.won_level = l->low[2];
+    c.grid[0] = l->low[3];
+    c.px = l->numbers[4];
+    c.count = l->numbers[5];
+    c.lives = (unsigned int)l->numbers[6];
     sumbadger_cutter_answer a = sumbadger_cutter_step_enemies(c);
     put_number(a.refusal);
     put_number(cutter_sum(&a.game) == cutter_sum(&c));
@@ -116,14 +131,8 @@ static void play_mine(const line *l) {
         }
         list.count = mine.count;
         gave_found(sumbadger_mine_who(list, l->numbers[0], l->numbers[1]));
-    } else if (is(l, "mine_mark")) {
-        sumbadger_mine m = mine;
-        m.falling[l->numbers[0] % SUMBADGER_MINE_CELLS] = l->low[1];
-        tried_mine(m);
-    } else if (is(l, "mine_dead")) {
-        sumbadger_mine m = mine;
-        m.dead = l->low[0];
-        tried_mine(m);
+    } else if (is(l, "mine_try")) {
+        try_mine(mine, l);
     } else {
         put_text(" unknown", 8);
     }
@@ -169,10 +178,8 @@ static void play_cutter(const line *l) {
         }
         list.count = cutter.count;
         gave_found(sumbadger_cutter_who(list, l->numbers[0], l->numbers[1]));
-    } else if (is(l, "cutter_trailing")) {
-        sumbadger_cutter c = cutter;
-        c.trailing = l->low[0];
-        tried_cutter(c);
+    } else if (is(l, "cutter_try")) {
+        try_cutter(cutter, l);
     } else {
         put_text(" unknown", 8);
     }

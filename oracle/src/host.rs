@@ -1,13 +1,14 @@
 //! What `hosts/c/round.c` prints of a script of calls, by the original. That a byte which is
-//! no flag is refused is the port's own (docs/DECISIONS.md): here it is written from there.
+//! no flag is refused is the port's own (docs/DECISIONS.md): here it is written from there, in
+//! document 01's order.
 
 use std::fmt::Write;
 
 use crate::bytes::Field;
 use crate::calls::{Call, Outcome, page};
-use crate::check::{CELLS_BAD, NUMBERS_BAD, Refusal};
+use crate::check::{self, CELLS_BAD, NUMBERS_BAD, Refusal, ensure};
 use crate::lines::text;
-use crate::state::{CELLS, Cutter, Game, Mine, Pace, State};
+use crate::state::{Cutter, Game, Mine, Pace, State};
 
 /// The numbers of a line, and those behind its `/`.
 struct Numbers {
@@ -55,7 +56,7 @@ pub fn played(script: &str) -> String {
 fn play(state: &mut State, name: &str, n: &Numbers, out: &mut String) {
     let call = match name {
         "page" => return put(out, &part(n.size(0), n.size(1))),
-        "mine_mark" | "mine_dead" | "cutter_trailing" => return put(out, &flag(name, n)),
+        "mine_try" | "cutter_try" => return put(out, &tried(state, n)),
         _ => call_of(state, name, n),
     };
     let before = if let Call::NewRound(_) = call { zeros() } else { state.clone() };
@@ -136,17 +137,29 @@ fn part(size: usize, number: usize) -> [usize; 2] {
     }
 }
 
-/// A byte above 1 in place of a flag: its refusal, and that the state came back.
-fn flag(name: &str, n: &Numbers) -> [Refusal; 2] {
-    let byte = *n.list.last().unwrap();
-    assert!(byte > 1, "the script tries no right flag");
-    match name {
-        "mine_mark" => {
-            assert!(n.size(0) < CELLS);
-            [CELLS_BAD, 1]
+/// A state with bad fields: its refusal, and that every byte came back. The first number is a
+/// flag of cause 1, the next two are of cause 4.
+fn tried(state: &State, n: &Numbers) -> [Refusal; 2] {
+    let own = match &state.game {
+        Game::Mine(m) => {
+            let mut m = m.clone();
+            m.grid[0] = n.list[3] as u8;
+            (m.px, m.count, m.needed) = (n.size(4), n.size(5), n.list[6] as u32);
+            check::mine(&m)
         }
-        _ => [NUMBERS_BAD, 1],
-    }
+        Game::Cutter(c) => {
+            let mut c = c.clone();
+            (c.trailing, c.grid[0]) = (n.list[0] == 1, n.list[3] as u8);
+            (c.px, c.count, c.lives) = (n.size(4), n.size(5), n.list[6] as u32);
+            check::cutter(&c)
+        }
+    };
+    let flags = |from: usize, to: usize| n.list[from..to].iter().all(|&byte| byte <= 1);
+    let refusal = ensure(flags(0, 1), CELLS_BAD)
+        .and(own.or_else(|no| ensure(no == NUMBERS_BAD, no)))
+        .and(ensure(flags(1, 3), NUMBERS_BAD))
+        .and(own);
+    [refusal.expect_err("the script tries bad states alone"), 1]
 }
 
 fn put<T: ToString>(out: &mut String, numbers: &[T]) {

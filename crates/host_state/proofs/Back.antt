@@ -2,16 +2,18 @@
 use mathlib.Core.Bool.{Bool, true, false, _&&_, false≢true}
 use mathlib.Core.List.{List, [], _∷_, map}
 use mathlib.Core.Path.{_≡_, refl, sym, ap, _∙_}
-use Prim.Native.Nat.{ℕ, zero, suc}
+use Prim.Native.Nat.{ℕ, zero, suc, _<_}
 use native.Mathlib.Omega.{arith}
 use lib.Dec.{lit<}
 use borrow.Author.Tests.{lt-leb}
 use Rattle.laws.specs.Lists.{all}
-use Rattle.laws.proofs.Choice.{and-left, and-right, and-three}
-use Rattle.refusal.specs.Refusal.{NONE, CELLS, NUMBERS}
+use Rattle.laws.proofs.Choice.{and-left, and-right}
+use Rattle.refusal.specs.Refusal.{NONE, CELLS, NUMBERS, _then_}
 use Rattle.refusal.proofs.Calls.{then-none, unless-none}
 use Rattle.mine_state.specs.declared.Mine.{Mine}
+use Rattle.mine_state.specs.WellFormed as MW
 use Rattle.cutter_state.specs.declared.Cutter.{Cutter}
+use Rattle.cutter_state.specs.WellFormed as CW
 use Rattle.host_state.specs.declared.mine_bytes.HostMine.{HostMine}
 use Rattle.host_state.specs.declared.cutter_bytes.HostCutter.{HostCutter}
 use Rattle.host_state.specs.Flags.{isFlag, flagOf, byteOf}
@@ -65,15 +67,20 @@ cutter-passes c = rw (byte-is-flag (c .trailing), byte-is-flag (c .dead), byte-i
 
 -- ---- a state whose flags pass is written out as it came
 
+some-number : (n : ℕ) → 0 < (n then NUMBERS)
+some-number zero = lit< tt
+some-number (suc n) = omega arith
+
 pub mine-as-it-came : (h : HostMine) → M.flagsOf h ≡ NONE → M.hostOf (M.gameOf h) ≡ h
 unfolding M.flagsOf M.gameOf M.hostOf
 mine-as-it-came h e =
     let p = then-none _ _ e in
-    let f : (isFlag (h .dead) && isFlag (h .won)) ≡ true = unless-none _ NUMBERS (lit< tt) (p .1) in
+    let f : (isFlag (h .dead) && isFlag (h .won)) ≡ true = unless-none _ _ (some-number (MW.refusalOf (M.gameOf h))) (p .1) in
     rw (bytes-flags (h .falling) (unless-none _ CELLS (lit< tt) (p .0)), byte-flag (h .dead) (and-left _ _ f), byte-flag (h .won) (and-right (isFlag (h .dead)) _ f))
 
 pub cutter-as-it-came : (h : HostCutter) → C.flagsOf h ≡ NONE → C.hostOf (C.gameOf h) ≡ h
 unfolding C.flagsOf C.gameOf C.hostOf
 cutter-as-it-came h e =
-    let p = and-three (isFlag (h .trailing)) (isFlag (h .dead)) (isFlag (h .«won_level»)) (unless-none _ NUMBERS (lit< tt) e) in
-    rw (byte-flag (h .trailing) (p .0), byte-flag (h .dead) (p .1), byte-flag (h .«won_level») (p .2))
+    let p = then-none _ _ e in
+    let f : (isFlag (h .dead) && isFlag (h .«won_level»)) ≡ true = unless-none _ _ (some-number (CW.refusalOf (C.gameOf h))) (p .1) in
+    rw (byte-flag (h .trailing) (unless-none _ CELLS (lit< tt) (p .0)), byte-flag (h .dead) (and-left _ _ f), byte-flag (h .«won_level») (and-right (isFlag (h .dead)) _ f))

@@ -1,16 +1,14 @@
 -- Block Mine's state as C holds it: to the game's own, and from it.
 use mathlib.Core.Bool.{_&&_}
 use mathlib.Core.List.{map}
+use mathlib.Core.Path.{_≡_}
 use Prim.Native.Nat.{ℕ}
 use Rattle.laws.specs.Lists.{all}
 use Rattle.refusal.specs.Refusal.{CELLS, NUMBERS, unless, _then_}
 use Rattle.mine_state.specs.declared.Mine.{Mine}
+use Rattle.mine_state.specs.WellFormed.{cellsOk, playerOk, creaturesOk, numbersOk, checked, refusalOf}
 use Rattle.host_state.specs.declared.mine_bytes.HostMine.{HostMine}
 use Rattle.host_state.specs.Flags.{isFlag, flagOf, byteOf}
-
--- the number of a byte that is no flag: 1 for a mark, then 4 for dead or won
-unfoldable pub flagsOf : HostMine → ℕ
-flagsOf h = unless (all isFlag (h .falling)) CELLS then unless (isFlag (h .dead) && isFlag (h .won)) NUMBERS
 
 -- the game's state of the host's
 unfoldable pub gameOf : HostMine → Mine
@@ -43,3 +41,19 @@ hostOf m =
       dead = byteOf (m .dead);
       won = byteOf (m .won);
     }
+
+-- a mark that is no flag gets 1; dead or won that is none gets 4, behind the state's own 1, 2 and 3
+unfoldable pub flagsOf : HostMine → ℕ
+flagsOf h =
+    unless (all isFlag (h .falling)) CELLS
+    then unless (isFlag (h .dead) && isFlag (h .won)) (refusalOf (gameOf h) then NUMBERS)
+
+-- document 01's order with each flag in its place
+unfoldable pub inOrder : HostMine → ℕ
+inOrder h =
+    checked (all isFlag (h .falling) && cellsOk (gameOf h)) (playerOk (gameOf h)) (creaturesOk (gameOf h))
+    (numbersOk (gameOf h) && (isFlag (h .dead) && isFlag (h .won)))
+
+-- what a host's state is refused for, by its flags and then by the public call, is the first that applies in that order
+abbrev pub InOrder : Type 0
+InOrder = (h : HostMine) → (flagsOf h then refusalOf (gameOf h)) ≡ inOrder h

@@ -26,12 +26,19 @@ pub struct HostCutter {
     pub won_level: u8,
 }
 
-// The number that a byte gets that is no flag, and NONE.
+// The number that a byte gets that is no flag, and NONE: CELLS for trailing, NUMBERS for dead or won behind what the state gets.
 pub fn cutter_flags(h: HostCutter) -> Refusal
     ensures { λ r. ⌜ r ≡ flagsOf h ⌝ }
 {
-    if is_flag(h.trailing) & is_flag(h.dead) & is_flag(h.won_level) {
+    if !is_flag(h.trailing) {
+        return refusal::CELLS;
+    }
+    if is_flag(h.dead) & is_flag(h.won_level) {
         return refusal::NONE;
+    }
+    let no = cutter_check::check(cutter_game(h));
+    if no != refusal::NONE {
+        return no;
     }
     refusal::NUMBERS
 }

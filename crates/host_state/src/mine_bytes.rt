@@ -72,7 +72,7 @@ fn bytes_of(marks: &[bool; AREA]) -> [u8; AREA]
     out
 }
 
-// The number that a byte gets that is no flag, and NONE: CELLS for a mark, NUMBERS for dead or won.
+// The number that a byte gets that is no flag, and NONE: CELLS for a mark, NUMBERS for dead or won behind what the state gets.
 pub fn mine_flags(h: HostMine) -> Refusal
     ensures { λ r. ⌜ r ≡ flagsOf h ⌝ }
 {
@@ -82,6 +82,10 @@ pub fn mine_flags(h: HostMine) -> Refusal
     }
     if is_flag(h.dead) & is_flag(h.won) {
         return refusal::NONE;
+    }
+    let no = mine_check::check(mine_game(h));
+    if no != refusal::NONE {
+        return no;
     }
     refusal::NUMBERS
 }

@@ -1,8 +1,12 @@
 -- `host_state::mine_flags` meets its contract. Assumes nothing.
-use mathlib.Core.Path.{_≡_, sym, _∙_}
+use mathlib.Core.Path.{_≡_, sym, ap, _∙_}
 use borrow.Author.Needs.{needs}
 use borrow.Author.Tests.{not-true, not-false}
+use Rattle.refusal.specs.Refusal.{NUMBERS}
+use Rattle.refusal.proofs.Calls.{then-first, then-second}
+use Rattle.mine_state.specs.WellFormed.{refusalOf}
 use Rattle.host_state.specs.Mine.{flagsOf}
+use Rattle.host_state.proofs.Order.{mine-behind}
 use Rattle.host_state.proofs.mine_bytes.mine_flags.Statement.{statement}
 use Rattle.host_state.proofs.mine_bytes.mine_flags.Tie as tie
 
@@ -18,13 +22,26 @@ returns-2 c =
     simp (sym (k .before .marks-ok .ensures) ∙ not-false _ (k .if1 .left), sym (f .is-flag .ensures), sym (c .before .is-flag2 .ensures), c .if2 .taken)
 
 returns-3 : tie.Need-returns-3
-unfolding flagsOf
 returns-3 c =
-    let f = c .before .before in
-    let k = f .before in
-    simp (sym (k .before .marks-ok .ensures) ∙ not-false _ (k .if1 .left), sym (f .is-flag .ensures), sym (c .before .is-flag2 .ensures), c .if2 .left)
+    let k = c .before .before .before in
+    let f = k .before .before in
+    let m = f .before .before in
+    let marks = sym (m .marks-ok .ensures) ∙ not-false _ (f .before .if1 .left) in
+    let no = c .before .check .ensures ∙ ap refusalOf (c .before .before .mine-game .ensures) in
+    sym (mine-behind (m .before .before .before .args .h) marks (f .is-flag .ensures) (k .before .is-flag2 .ensures) (k .if2 .left) no
+    ∙ then-first _ NUMBERS (c .if3 .taken))
+
+returns-4 : tie.Need-returns-4
+returns-4 c =
+    let k = c .before .before .before in
+    let f = k .before .before in
+    let m = f .before .before in
+    let marks = sym (m .marks-ok .ensures) ∙ not-false _ (f .before .if1 .left) in
+    let no = c .before .check .ensures ∙ ap refusalOf (c .before .before .mine-game .ensures) in
+    sym (mine-behind (m .before .before .before .args .h) marks (f .is-flag .ensures) (k .before .is-flag2 .ensures) (k .if2 .left) no
+    ∙ then-second _ NUMBERS (c .if3 .left))
 
 pub mine-flags-spec : {M : Type 1} → statement M
 mine-flags-spec =
     tie.close
-    (tie.spec (λ c κs. search needs) returns (λ c κs. search needs) (λ c κs. search needs) returns-2 returns-3)
+    (tie.spec (λ c κs. search needs) returns (λ c κs. search needs) (λ c κs. search needs) returns-2 (λ c κs. search needs) (λ c κs. search needs) returns-3 returns-4)
