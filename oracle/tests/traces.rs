@@ -4,7 +4,7 @@ use oracle::calls::Call;
 use oracle::check;
 use oracle::games::{Answer, cutter};
 use oracle::make::corners::{self, Corners};
-use oracle::make::sequences;
+use oracle::make::{cutter_variations, sequences};
 use oracle::replay::{Seen, replay_seen};
 use oracle::state::*;
 use oracle::sweeps::{Closing, Fate, Region, closes_at, closing};
@@ -99,7 +99,9 @@ fn each_step_of_the_corners_is_made_by_sweeps() {
         let at = both.iter().position(|state| state == before).expect("the step by sweeps");
         both.remove(at);
     }
-    assert_eq!(both, []);
+    // What is left begins at the states with a field at a boundary, each once.
+    let states = [cutter_variations::boundaries(), cutter_variations::drawing_variations()];
+    assert_eq!(both.len(), states.iter().map(Vec::len).sum());
 }
 
 #[test]
@@ -133,6 +135,17 @@ fn the_corners_are_what_their_names_say() {
     }
     let (answer, before, after) = first("Mine won and dead: won");
     assert_eq!((answer, before), (Answer::Won, after));
+    for (name, place) in [
+        ("as near on all sides: left", (28, 15)),
+        ("as near to the right, above and below: right", (36, 15)),
+        ("as near above and below: up", (32, 11)),
+        ("respawn beside what was line: no walk", (32, 0)),
+    ] {
+        let (_, _, after) = first(name);
+        assert_eq!((cutter(&after).px, cutter(&after).py), place, "{name}");
+    }
+    let (_, _, after) = first("a step lays line before a creature: it dies of that");
+    assert_eq!((cutter(&after).dead, cutter(&after).enemies[0].x), (true, 33));
     let (_, before, after) = first("a zigzag of 63 pockets, the large region uncounted");
     assert_eq!((cutter(&before).count, cutter(&after).count), (1, 0));
     for name in ["gravity", "creatures", "the step"] {

@@ -1,7 +1,7 @@
 //! The corners: a short trace with every call, every refusal and every case that was ever
 //! in doubt, each under a name.
 
-use super::variations::{Variation, causes};
+use super::variations::{FINE, Variation, causes};
 use super::{
     BAD_FRAMES, battery, cutter_corners, cutter_variations, mine_corners, mine_variations,
     question_corners, sequences,
@@ -15,11 +15,14 @@ use crate::trace::Trace;
 pub const PICTURE: u16 = FRAME as u16;
 /// A frame for pictures that are refused anyway.
 const SMALL: u16 = 4;
+/// A command that is refused, the last of the refusals before a picture's own.
+const BAD_COMMAND: u8 = 4;
 
 /// A trace with a name for each stretch of it.
 pub struct Corners {
     pub trace: Trace,
-    /// The steps of it that change the state, made by sweeps.
+    /// The steps of it that change the state, made by sweeps, and one by sweeps from each state with
+    /// a field at a boundary.
     pub swept: Trace,
     /// The first entry of each corner, and its name.
     pub names: Vec<(usize, String)>,
@@ -72,6 +75,7 @@ pub fn corners() -> Corners {
     question_corners::corners(&mut out);
     mine_boundaries(&mut out);
     cutter_boundaries(&mut out);
+    cutter_edges(&mut out);
     out
 }
 
@@ -120,33 +124,48 @@ fn varied<S>(base: fn() -> S, variations: &[Variation<S>]) -> impl Iterator<Item
 
 fn mine_boundaries(out: &mut Corners) {
     let pace = Pace::default();
-    let causes = causes(mine_variations::variations());
+    let causes = causes(mine_variations::boundaries());
     for (name, m) in varied(mine_variations::base, &causes) {
         out.mine(&format!("Mine refused: {name}"), &m, battery::mine(&pace, SMALL));
     }
-    for [one, two] in pairs(&causes) {
+    for (i, [one, two]) in pairs(&causes).into_iter().enumerate() {
         let mut m = mine_variations::base();
         one.apply(&mut m);
         two.apply(&mut m);
         let name = format!("Mine order: {} and {}", one.name, two.name);
-        out.mine(&name, &m, battery::mine(&pace, PICTURE));
+        out.mine(&name, &m, battery::mine(&pace, if i == 0 { PICTURE } else { SMALL }));
+    }
+    let fine: Vec<_> = mine_variations::boundaries().into_iter().filter(|v| v.refusal == FINE).collect();
+    for (name, m) in varied(mine_variations::base, &fine) {
+        out.mine(&format!("Mine accepted: {name}"), &m, vec![Call::Move(BAD_COMMAND)]);
     }
 }
 
 fn cutter_boundaries(out: &mut Corners) {
     let pace = Pace::default();
-    let base = causes(cutter_variations::variations());
-    let drawing = causes(cutter_variations::drawing_variations());
+    let base = causes(cutter_variations::boundaries());
+    let mut drawing = causes(cutter_variations::drawing_variations());
+    drawing.retain(|v| base.iter().all(|known| known.name != v.name));
     let on_base = varied(cutter_variations::base, &base);
     for (name, c) in on_base.chain(varied(cutter_variations::drawing, &drawing)) {
         out.cutter(&format!("Cutter refused: {name}"), &c, battery::cutter(&c, &pace, SMALL));
     }
-    for [one, two] in pairs(&base) {
+    for (i, [one, two]) in pairs(&base).into_iter().enumerate() {
         let mut c = Cutter { won_level: true, ..cutter_variations::base() };
         one.apply(&mut c);
         two.apply(&mut c);
         let name = format!("Cutter order: {} and {}", one.name, two.name);
-        out.cutter(&name, &c, battery::cutter(&c, &pace, PICTURE));
+        out.cutter(&name, &c, battery::cutter(&c, &pace, if i == 0 { PICTURE } else { SMALL }));
+    }
+}
+
+/// Every variation with a step by sweeps, in the trace of those: a state of Cutter takes 2 KB.
+fn cutter_edges(out: &mut Corners) {
+    let base = cutter_variations::boundaries();
+    let drawing = cutter_variations::drawing_variations();
+    let on_base = varied(cutter_variations::base, &base);
+    for (_, c) in on_base.chain(varied(cutter_variations::drawing, &drawing)) {
+        out.swept.by_sweeps(State { game: Game::Cutter(Box::new(c)), pace: Pace::default() });
     }
 }
 

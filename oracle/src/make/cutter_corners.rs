@@ -14,10 +14,14 @@ const NOT_CLEAR: usize = 465;
 pub fn corners(out: &mut Corners) {
     rounds(out);
     steps(out);
+    along_the_border(out);
+    flags(out);
     closings(out);
+    walks(out);
     regions(out);
     creatures(out);
     wins(out);
+    both_ticks(out);
     lives(out);
     levels(out);
     quits(out);
@@ -36,6 +40,7 @@ fn pass(time: u32, keys: &[u8], draws: usize) -> Call {
 fn rounds(out: &mut Corners) {
     let good = DRAW_BOUNDS.map(|bound| bound - 1);
     let mut draws = vec![vec![0; 4], good.to_vec(), Vec::new(), vec![0; 3], vec![0; 5], vec![0; 8]];
+    draws.extend([vec![3, 5, 0, 1], vec![3, 5, 1, 0]]);
     for i in 0..4 {
         for draw in [DRAW_BOUNDS[i], 255] {
             let mut bad = good;
@@ -47,15 +52,16 @@ fn rounds(out: &mut Corners) {
     out.cutter("new rounds: lowest, highest, wrong number, each out of range", &fresh(), rounds);
     let respawn = vec![Call::Direction(DOWN), Call::Step, Call::Respawn];
     out.cutter("respawn: line back to black", &fresh(), respawn);
-    for level in [1, 2, 15, 16, 17, LAST_LEVEL] {
+    for level in [1, 15, 16, LAST_LEVEL] {
         let c = Cutter { level, lives: 0, dead: true, won_level: true, ..fresh() };
         let right = draws_for(level);
-        let mut last = vec![0; right];
-        last[right - 1] = 2;
-        let bad = [vec![0; right - 1], vec![0; right + 1], vec![0; right + 4], last];
+        let [mut first, mut last] = [vec![0; right], vec![0; right]];
+        (first[0], last[right - 1]) = (62, 2);
+        let bad = [vec![0; right - 1], vec![0; right + 1], vec![0; right + 4], first, last];
         out.cutter("fresh level keeps dead, won, lives and level", &c, Vec::new());
         out.go_on(bad.map(Call::NewLevel).to_vec());
-        out.go_on(vec![Call::NewLevel(vec![1; right])]);
+        let each = (0..right).map(|i| (i * 7 % 9 % usize::from(DRAW_BOUNDS[i % 4])) as u8);
+        out.go_on(vec![Call::NewLevel(each.collect())]);
     }
 }
 
@@ -80,6 +86,52 @@ fn steps(out: &mut Corners) {
     out.cutter("scattered line", &scattered, step(3));
     scattered.enemies[0] = Mover { x: 30, y: 5, vx: 1, vy: 1 };
     out.cutter("respawn from scattered line", &scattered, vec![Call::Respawn]);
+}
+
+/// Round one black cell, so that each of the eight neighbours in turn is the one that is black; onto
+/// the way from a cell away from black, and off it again. A pass takes a key and makes a step.
+fn along_the_border(out: &mut Corners) {
+    let c = fresh().claimed(1..63, 1..19).black(10, 10).peopled(&[]).at((8, 9));
+    let keys = [9, 9, 9, 8, 8, 7, 7, 5, 5, 7];
+    let passes = (1..).zip(keys).map(|(turn, key)| pass(turn * STEP, &[key], 0)).collect();
+    out.cutter("round one black cell, from away from black and back", &c, passes);
+}
+
+/// One step before a closing at (32,15) in the middle of claimed ground, around which black lies four
+/// steps away above and below, and to the left and to the right where told so.
+fn hemmed(left: bool, right: bool) -> Cutter {
+    let mut c = fresh().claimed(1..63, 1..31).peopled(&[]);
+    let far = if right { 37 } else { 45 };
+    for x in 27..=far {
+        c = c.black(x, 10).black(x, 20);
+    }
+    for y in 11..20 {
+        c = c.black(far, y);
+        if left {
+            c = c.black(27, y);
+        }
+    }
+    c.line(&[(32, 14)]).at((32, 14)).heading(DOWN)
+}
+
+/// Which of two cells as near the walk to the border takes: left before right before up before down.
+fn walks(out: &mut Corners) {
+    for (name, left, right) in [
+        ("as near on all sides: left", true, true),
+        ("as near to the right, above and below: right", false, true),
+        ("as near above and below: up", false, false),
+    ] {
+        out.cutter(name, &hemmed(left, right), step(1));
+    }
+    let shut = fresh().claimed(31..34, 1..2).line(&[(32, 1)]).at((32, 1)).heading(RIGHT);
+    out.cutter("respawn beside what was line: no walk", &shut, vec![Call::Respawn]);
+}
+
+/// Flags that no call but a pass changes.
+fn flags(out: &mut Corners) {
+    let c = Cutter { dead: true, won_level: true, lives: 0, ..drawing(4) };
+    let calls = vec![Call::Step, Call::StepEnemies, Call::Respawn];
+    out.cutter("a dead and won state steps, ticks and respawns", &c, calls);
 }
 
 fn closings(out: &mut Corners) {
@@ -109,7 +161,7 @@ fn closings(out: &mut Corners) {
 }
 
 fn regions(out: &mut Corners) {
-    for number in [47, 48, 49, 50] {
+    for number in [48, 49] {
         let name = format!("{number} regions of one cell");
         out.cutter(&name, &chequers(number), step(1));
         let last = chequers(number).peopled_in_order(number);
@@ -138,7 +190,7 @@ fn creatures(out: &mut Corners) {
     out.cutter("P13: only the diagonal claimed: stays", &diagonal, tick.clone());
     let boxed = fresh().claimed(19..22, 19..22).black(20, 20).peopled(&[(20, 20, 1, -1)]);
     out.cutter("shut in: flips both and stays", &boxed, tick.clone());
-    for killer in [(31, 3, 1, 1), (32, 5, 1, -1), (31, 5, 1, -1)] {
+    for killer in [(31, 4, 1, 1), (32, 5, 1, -1), (31, 5, 1, -1)] {
         let c = drawing(4).peopled(&[(9, 9, 1, 1), killer, (20, 20, 1, 1)]);
         let name = "line at the side, above, diagonal: earlier ones moved, later ones not";
         out.cutter(name, &c, vec![Call::StepEnemies]);
@@ -168,8 +220,9 @@ fn wins(out: &mut Corners) {
     let open = |black| sliver(black).line(&[(1, 1)]).at((1, 1));
     out.cutter("465 with an open line: not won", &open(NOT_CLEAR + 1), plain[..1].to_vec());
     out.cutter("464 with an open line: won", &open(NOT_CLEAR), plain);
-    let lay = sliver(NOT_CLEAR).at((1, 0)).heading(DOWN);
-    out.cutter("from 465 a step lays line: won", &lay, vec![pass(STEP, &[], 0)]);
+    let lay = sliver(NOT_CLEAR).at((1, 0)).heading(DOWN).peopled(&[(20, 3, 1, 1)]);
+    let name = "from 465 a step lays line: won, and creatures still tick";
+    out.cutter(name, &lay, vec![pass(MOVER, &[], 0)]);
     let early = vec![pass(STEP - 1, &[], 0), Call::Step, Call::StepEnemies];
     out.cutter("464, no step due: not won; the step call neither", &sliver(464), early);
     let killed = open(NOT_CLEAR - 1).line(&[(2, 1)]).heading(RIGHT);
@@ -178,6 +231,12 @@ fn wins(out: &mut Corners) {
     let last = Cutter { lives: 1, ..killed };
     let over = vec![pass(STEP, &[], 0), pass(0, &[10], 0), pass(0, &[], 8)];
     out.cutter("the same with one life left: over", &last, over);
+}
+
+/// Both ticks in one pass: the step comes first.
+fn both_ticks(out: &mut Corners) {
+    let c = drawing(4).peopled(&[(33, 6, -1, -1)]);
+    out.cutter("a step lays line before a creature: it dies of that", &c, vec![pass(MOVER, &[], 0)]);
 }
 
 fn lives(out: &mut Corners) {
@@ -194,7 +253,7 @@ fn lives(out: &mut Corners) {
 }
 
 fn levels(out: &mut Corners) {
-    for level in [1, 14, 15, 16, LAST_LEVEL - 1] {
+    for level in [1, 15, 16, LAST_LEVEL - 1] {
         let c = Cutter { level, won_level: true, ..drawing(2) };
         let right = draws_for(level + 1);
         let bad =
@@ -218,7 +277,9 @@ fn quits(out: &mut Corners) {
     let quit = vec![pass(MOVER, &[9, 10, 7], 0), pass(MOVER, &[10], 0)];
     out.cutter("quitting: the direction stands, no ticks", &drawing(2), quit);
     let ignored = [0, 1, 2, 3, 4, 6, 11, 12, 127, 128, 255];
-    out.cutter("keys that are ignored", &drawing(2), vec![pass(1, &ignored, 0)]);
+    let mut each: Vec<_> = ignored.iter().map(|&key| pass(1, &[key], 0)).collect();
+    each.push(pass(1, &[[7, 9].as_slice(), &ignored].concat(), 0));
+    out.cutter("keys that are ignored, each alone and behind two that aren't", &fresh(), each);
     let each = [5, 8, 7, 9].map(|key| pass(1, &[key], 0)).to_vec();
     out.cutter("each direction key", &fresh(), each);
     out.go_on([UP, RIGHT, DOWN, LEFT].map(Call::Direction).to_vec());

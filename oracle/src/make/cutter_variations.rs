@@ -44,6 +44,15 @@ pub fn variations() -> Vec<Variation<Cutter>> {
     v.0
 }
 
+/// The same and more: what random traces don't draw from.
+pub fn boundaries() -> Vec<Variation<Cutter>> {
+    let mut v = Variations(variations());
+    v.each(CELLS_BAD, "black on the ring at", &[62, 2046], |c, cell| c.grid[cell] = BLACK);
+    v.add(CELLS_BAD, "last inner cell", |c| c.grid[30 * CW + 62] = LINE + 1);
+    v.add(CREATURES_BAD, "first x a row on", |c| c.enemies[0].x = 65);
+    v.0
+}
+
 /// Variations of [`drawing`].
 pub fn drawing_variations() -> Vec<Variation<Cutter>> {
     let mut v: Variations<Cutter> = Variations(Vec::new());

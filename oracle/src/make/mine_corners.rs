@@ -100,7 +100,8 @@ fn moves(out: &mut Corners) {
     let m = around(DIRT).peopled(&[(6, 5, UP)]);
     out.mine("a creature in the way", &m, vec![Call::Move(RIGHT), Call::Move(LEFT)]);
     let m = Mine { dead: true, won: true, ..around(DIRT) };
-    out.mine("a dead and won state moves and ticks", &m, vec![Call::Move(RIGHT), Call::Gravity]);
+    let calls = vec![Call::Move(RIGHT), Call::Gravity, Call::MoveEnemies];
+    out.mine("a dead and won state moves and ticks", &m, calls);
 }
 
 fn falls(out: &mut Corners) {
@@ -221,6 +222,9 @@ fn passes(out: &mut Corners) {
     out.mine("quitting: earlier moves stand, no ticks", &row, quit);
     let ignored = [0, 1, 2, 3, 4, 6, 11, 12, 127, 128, 255, b'9', 9];
     out.mine("keys that are ignored", &row, vec![pass(1, &ignored), pass(1, &[])]);
+    let open = [(4, 5, EMPTY), (6, 5, EMPTY), (5, 4, EMPTY), (5, 6, EMPTY)];
+    let each = ignored[..11].iter().map(|&key| pass(1, &[key])).collect();
+    out.mine("keys that are ignored on open ground, each alone", &walled((5, 5), &open), each);
     let many = [[9, 7]; 100].concat();
     out.mine("many keys", &row, vec![pass(1, &many)]);
     let m = walled((5, 6), &[(5, 5, BOULDER)]).marked(&[(5, 5)]).peopled(&[(9, 9, UP)]);
@@ -262,6 +266,9 @@ fn pictures(out: &mut Corners) {
         m.count = 0;
         out.mine("picture from each edge of the window", &m.peopled(&crowd), picture.clone());
     }
+    let edges = [(3, 5), (4, 6), (19, 5), (20, 6), (8, 2), (9, 3), (10, 9), (11, 10)];
+    let m8 = walled((12, 6), &[]).peopled(&edges.map(|(x, y)| (x, y, UP)));
+    out.mine("picture with creatures on both sides of each edge", &m8, picture.clone());
     for coins in [27, 28] {
         let mut m = Mine { coins, ..m.clone() };
         (m.px, m.py) = (21, 11);

@@ -45,6 +45,16 @@ pub fn variations() -> Vec<Variation<Mine>> {
     v.0
 }
 
+/// The same and more: what random traces don't draw from.
+pub fn boundaries() -> Vec<Variation<Mine>> {
+    let mut v = Variations(variations());
+    v.add(FINE, "all coins in hand", |m| {
+        m.grid.iter_mut().filter(|code| **code == COIN).for_each(|code| *code = EMPTY);
+        m.coins = 336;
+    });
+    v.0
+}
+
 fn cells(v: &mut Variations<Mine>) {
     let codes = [EXIT + 1, 7, 128, 255];
     v.each(CELLS_BAD, "first cell", &codes, |m, code| m.grid[0] = code);
@@ -76,9 +86,12 @@ fn creatures(v: &mut Variations<Mine>) {
     v.each(FINE, "last x", &[0, W - 1], |m, x| m.enemies[2].x = x);
     v.each(FINE, "last y", &[0, H - 1], |m, y| m.enemies[2].y = y);
     v.each(CREATURES_BAD, "creature on", &NOT_EMPTY, |m, code| m.grid[3 * W + 11] = code);
-    v.each(CREATURES_BAD, "one cell shared by", &[(0, 1), (0, 2), (1, 2)], |m, (a, b)| {
-        (m.enemies[b].x, m.enemies[b].y) = (m.enemies[a].x, m.enemies[a].y);
-    });
+    for pair in [(0, 1), (0, 2), (1, 2)] {
+        let cause = format!("one cell shared by {pair:?}");
+        v.add(CREATURES_BAD, &cause, move |m| {
+            (m.enemies[pair.1].x, m.enemies[pair.1].y) = (m.enemies[pair.0].x, m.enemies[pair.0].y);
+        });
+    }
     v.add(FINE, "one on the player", |m| at_player(m, 1));
     v.add(CREATURES_BAD, "two on the player", |m| {
         at_player(m, 0);
@@ -119,8 +132,9 @@ fn numbers(v: &mut Variations<Mine>) {
     let too_many = [most + 1, 336, 337, u32::MAX - on_map, u32::MAX - on_map + 1, u32::MAX];
     v.each(NUMBERS_BAD, "coins", &too_many, |m, coins| m.coins = coins);
     v.each(FINE, "needed", &[1, 27, 336], |m, needed| m.needed = needed);
-    let out = [0, 337, (1 << 16) + 28, 1 << 31, u32::MAX];
-    v.each(NUMBERS_BAD, "needed", &out, |m, needed| m.needed = needed);
+    v.each(NUMBERS_BAD, "needed", &[0], |m, needed| m.needed = needed);
+    let above = [337, (1 << 16) + 28, 1 << 31, u32::MAX];
+    v.each(NUMBERS_BAD, "needed above", &above, |m, needed| m.needed = needed);
     v.add(FINE, "all coins on the map", |m| {
         m.grid = [COIN; CELLS];
         m.grid[PLAYER] = EMPTY;
