@@ -7,7 +7,7 @@ use super::{
     question_corners, sequences,
 };
 use crate::calls::Call;
-use crate::check::{CELLS_BAD, CREATURES_BAD, NUMBERS_BAD, PLAYER_BAD};
+use crate::check::{CELLS_BAD, CREATURES_BAD, LAST_LEVEL, NUMBERS_BAD, PLAYER_BAD};
 use crate::stand_ins::catcard_app::screen::FRAME;
 use crate::state::*;
 use crate::trace::Trace;
@@ -151,7 +151,7 @@ fn cutter_boundaries(out: &mut Corners) {
         out.cutter(&format!("Cutter refused: {name}"), &c, battery::cutter(&c, &pace, SMALL));
     }
     for (i, [one, two]) in pairs(&base).into_iter().enumerate() {
-        let mut c = Cutter { won_level: true, ..cutter_variations::base() };
+        let mut c = Cutter { won_level: true, level: LAST_LEVEL, ..cutter_variations::base() };
         one.apply(&mut c);
         two.apply(&mut c);
         let name = format!("Cutter order: {} and {}", one.name, two.name);

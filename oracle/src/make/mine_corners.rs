@@ -189,6 +189,8 @@ fn creatures(out: &mut Corners) {
     }
     let m = walled((4, 5), &[]).peopled(&[(5, 5, LEFT), (6, 5, LEFT), (7, 5, LEFT)]);
     out.mine("a creature reaches the player, others follow; it walks off", &m, tick.clone());
+    let m = walled((3, 5), &[(4, 5, EMPTY)]).peopled(&[(7, 5, LEFT), (6, 5, LEFT), (5, 5, LEFT)]);
+    out.mine("the same row, the last in front", &m, tick.clone());
     let m = walled((1, 1), &[]).peopled(&[(5, 5, RIGHT), (6, 5, LEFT)]);
     out.mine("creatures head on", &m, tick.clone());
     let m = walled((5, 5), &[(5, 6, EMPTY)]).peopled(&[(5, 5, DOWN)]);
@@ -229,6 +231,11 @@ fn passes(out: &mut Corners) {
     out.mine("many keys", &row, vec![pass(1, &many)]);
     let m = walled((5, 6), &[(5, 5, BOULDER)]).marked(&[(5, 5)]).peopled(&[(9, 9, UP)]);
     out.mine("gravity kills and creatures still tick", &m, vec![pass(ENEMY, &[]), pass(0, &[])]);
+    let m = walled((1, 1), &[(9, 8, BOULDER), (10, 9, EMPTY)]).marked(&[(9, 8)]);
+    let m = m.peopled(&[(9, 9, RIGHT)]);
+    out.mine("gravity before the creatures: one is squashed, not gone", &m, vec![pass(ENEMY, &[])]);
+    let m = walled((5, 6), &[(5, 5, BOULDER), (6, 6, EMPTY)]).marked(&[(5, 5)]);
+    out.mine("keys before gravity: the player is gone", &m, vec![pass(GRAVITY, &[9])]);
     let m = walled((4, 5), &[]).peopled(&[(6, 5, LEFT), (5, 5, LEFT)]);
     out.mine("the creatures' tick kills", &m, vec![pass(ENEMY, &[]), pass(2 * ENEMY, &[9])]);
 }
