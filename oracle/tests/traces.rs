@@ -144,7 +144,7 @@ fn the_corners_are_what_their_names_say() {
         let (_, _, after) = first(name);
         assert_eq!((cutter(&after).px, cutter(&after).py), place, "{name}");
     }
-    let (_, _, after) = first("a step lays line before a creature: it dies of that");
+    let (_, _, after) = first("a step lays line before a creature, which then meets it");
     assert_eq!((cutter(&after).dead, cutter(&after).enemies[0].x), (true, 33));
     let (_, before, after) = first("a zigzag of 63 pockets, the large region uncounted");
     assert_eq!((cutter(&before).count, cutter(&after).count), (1, 0));

@@ -135,7 +135,8 @@ fn mine_boundaries(out: &mut Corners) {
         let name = format!("Mine order: {} and {}", one.name, two.name);
         out.mine(&name, &m, battery::mine(&pace, if i == 0 { PICTURE } else { SMALL }));
     }
-    let fine: Vec<_> = mine_variations::boundaries().into_iter().filter(|v| v.refusal == FINE).collect();
+    let fine: Vec<_> =
+        mine_variations::boundaries().into_iter().filter(|v| v.refusal == FINE).collect();
     for (name, m) in varied(mine_variations::base, &fine) {
         out.mine(&format!("Mine accepted: {name}"), &m, vec![Call::Move(BAD_COMMAND)]);
     }

@@ -85,7 +85,8 @@ fn moves(out: &mut Corners) {
         let m = Mine { coins, ..exit.clone() };
         out.mine("the exit one coin short, at the number, above it", &m, every.clone());
     }
-    let m = around(BOULDER);
+    let mut m = around(BOULDER);
+    (m.grid[3 * W + 5], m.grid[7 * W + 5]) = (EMPTY, EMPTY);
     out.mine("boulders blocked and not pushed up or down", &m, every.clone());
     let open = |cells: &[(usize, usize, u8)]| walled((5, 5), cells);
     let row = [(3, 5, EMPTY), (4, 5, BOULDER), (6, 5, BOULDER), (7, 5, EMPTY)];
@@ -154,6 +155,10 @@ fn rolls(out: &mut Corners) {
         m.grid[y * W + x] = DIRT;
         out.mine("no roll past dirt", &m, gravity(1));
     }
+    let near = [0, 23].map(|x| [(x, 5, EMPTY), (x, 6, EMPTY)]).concat();
+    let piles = [1, 22].map(|x| [(x, 5, BOULDER), (x, 6, COIN)]).concat();
+    let m = walled((1, 1), &[near, piles].concat());
+    out.mine("rolls into the first column and the last", &m, gravity(1));
     let edge = [(0, 5, COIN), (0, 6, COIN), (23, 5, COIN), (23, 6, BOULDER)];
     out.mine("no roll off the grid", &walled((1, 1), &edge), gravity(1));
     let m = walled((1, 1), &[(5, 5, COIN), (5, 6, COIN), (6, 5, EMPTY), (6, 6, EMPTY)]);
@@ -227,6 +232,7 @@ fn passes(out: &mut Corners) {
     let open = [(4, 5, EMPTY), (6, 5, EMPTY), (5, 4, EMPTY), (5, 6, EMPTY)];
     let each = ignored[..11].iter().map(|&key| pass(1, &[key])).collect();
     out.mine("keys that are ignored on open ground, each alone", &walled((5, 5), &open), each);
+    out.go_on(vec![pass(1, &[5]), pass(1, &[8, 7])]);
     let many = [[9, 7]; 100].concat();
     out.mine("many keys", &row, vec![pass(1, &many)]);
     let m = walled((5, 6), &[(5, 5, BOULDER)]).marked(&[(5, 5)]).peopled(&[(9, 9, UP)]);
