@@ -60,6 +60,7 @@ pub struct Difference {
 
 #[derive(Clone, Debug, Default, PartialEq, Eq)]
 pub struct Report {
+    pub entries: usize,
     pub calls: usize,
     pub differ: usize,
     pub first: Option<Difference>,
@@ -73,6 +74,9 @@ impl fmt::Display for Difference {
 
 impl fmt::Display for Report {
     fn fmt(&self, f: &mut fmt::Formatter<'_>) -> fmt::Result {
+        if self.entries == 0 {
+            return writeln!(f, "no entry: the input is empty or can't be read");
+        }
         if let Some(d) = self.first {
             writeln!(f, "{d}")?;
         }
@@ -115,6 +119,7 @@ fn run(
     for number in 0.. {
         let header = take(&mut input, HEADER)?;
         let Some(&call) = header.first() else { break };
+        report.entries += 1;
         let entry = read_entry(&header, &mut input)?;
         report.calls += usize::from(call != 0 && entry.is_some());
 

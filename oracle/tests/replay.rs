@@ -106,6 +106,11 @@ fn a_difference_is_told_in_words() {
 }
 
 #[test]
+fn an_empty_input_is_no_run() {
+    assert_eq!(report(&[]).to_string(), "no entry: the input is empty or can't be read\n");
+}
+
+#[test]
 fn a_trace_cut_short_cannot_be_read() {
     let trace = small();
     let whole = trace.bytes.len();

@@ -3,8 +3,6 @@ use crate::cut_run;
 use crate::cut_start;
 use crate::mine_run;
 use cutter_state::Cutter;
-use libc::STDIN_FILENO;
-use libc::STDOUT_FILENO;
 use mine_state::Mine;
 
 // Bytes read at a time, so many that their lines fit io's large buffer.
@@ -18,8 +16,7 @@ struct MineTurn {
 // Reads once, plays what came and writes its lines; answers whether there may be more.
 fn mine_turn(m: Mine, parted: bool) -> MineTurn {
     let mut input = [0u8; READ];
-    let got = libc::read(STDIN_FILENO, &mut input);
-    let n = io::count(got, &input);
+    let n = streams::read(&mut input);
     if n == 0 {
         return MineTurn {
             game: m,
@@ -30,7 +27,7 @@ fn mine_turn(m: Mine, parted: bool) -> MineTurn {
     let run = mine_run(m, parted, &input[..n], &mut out);
     let end = run.end;
     let game = run.game;
-    let more = io::write_all(STDOUT_FILENO, &out[..end]);
+    let more = streams::write(&out[..end]);
     MineTurn { game, more }
 }
 
@@ -57,8 +54,7 @@ struct CutTurn {
 // Reads once, plays what came and writes its lines; answers whether there may be more.
 fn cut_turn(c: Cutter, parted: bool) -> CutTurn {
     let mut input = [0u8; READ];
-    let got = libc::read(STDIN_FILENO, &mut input);
-    let n = io::count(got, &input);
+    let n = streams::read(&mut input);
     if n == 0 {
         return CutTurn {
             game: c,
@@ -69,7 +65,7 @@ fn cut_turn(c: Cutter, parted: bool) -> CutTurn {
     let run = cut_run(c, parted, &input[..n], &mut out);
     let end = run.end;
     let game = run.game;
-    let more = io::write_all(STDOUT_FILENO, &out[..end]);
+    let more = streams::write(&out[..end]);
     CutTurn { game, more }
 }
 

@@ -4,10 +4,7 @@ use mathlib.Core.Path.{_≡_}
 use Prim.Native.Nat.{ℕ, _<_, _≤_}
 use lib.ListN.{length}
 
--- the bytes of a header; of three parts at most; of one
-abbrev pub HEADER : ℕ
-HEADER = 12
-
+-- the bytes of three parts at most; of one
 abbrev pub BODY : ℕ
 BODY = 196608
 

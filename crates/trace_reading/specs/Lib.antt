@@ -1,2 +1,3 @@
 pub mod CodeBuffers
 pub mod Entry
+pub mod Run

@@ -2,18 +2,19 @@
 use crate::entry::SET;
 use crate::entry::judge;
 use crate::telling::say_difference;
+use crate::telling::say_nothing;
 use crate::telling::say_verdict;
-use libc::STDIN_FILENO;
 use std::num::wrapping_add_u64;
 use trace_verdict::Head;
 use trace_verdict::Part;
 use trace_words::put_cells;
 use trace_words::word;
-ghost use Prim.Native.Nat.{_<_};
 ghost use mathlib.Core.Path.{_≡_};
+ghost use Prim.Native.Nat.{_<_};
 ghost use lib.ListN.{length};
 ghost use Rattle.trace_words.specs.Numbers.{InWord};
-ghost use Rattle.trace_reading.specs.CodeBuffers.{HEADER, BODY, MOST, Lengths, Buffers};
+ghost use Rattle.trace_reading.specs.Run.{HEADER, headOf, foundOf, isSame, isUnread, oneIf, afterOf};
+ghost use Rattle.trace_reading.specs.CodeBuffers.{BODY, MOST, Lengths, Buffers};
 
 // A header's bytes.
 const HEADER: usize = 12;
@@ -57,6 +58,7 @@ fn length_at(header: &[u8], at: usize) -> usize
 
 fn head_of(header: &[u8; HEADER]) -> Head
     requires { ⌜ length (now header) ≡ HEADER ⌝ }
+    ensures { λ r. ⌜ r ≡ headOf (now (header .entry)) ⌝ }
 {
     Head {
         call: header[0],
@@ -71,13 +73,13 @@ fn read_entry(body: &mut [u8]) -> Shape
     ensures { λ r. ⌜ Lengths (r .args) (r .state) (r .result) × (length (now (body .exit)) ≡ BODY) ⌝ }
 {
     let mut header = [0u8; HEADER];
-    let got = io::read_full(STDIN_FILENO, &mut header);
+    let got = streams::read_full(&mut header);
     let spare = header[3] | header[10] | header[11];
     let args = length_at(&header, 4);
     let state = length_at(&header, 6);
     let result = length_at(&header, 8);
     let n = args + state + result;
-    let read = io::read_full(STDIN_FILENO, &mut body[..n]);
+    let read = streams::read_full(&mut body[..n]);
     Shape {
         over: got == 0,
         whole: (got == HEADER) & (spare == 0) & (read == n),
@@ -91,6 +93,7 @@ fn read_entry(body: &mut [u8]) -> Shape
 // What is found of an entry that was read.
 fn judged(e: Shape, body: &[u8], current: &[u8]) -> Part
     requires { ⌜ Lengths (e .args) (e .state) (e .result) × (length (now body) ≡ BODY) ⌝ }
+    ensures { λ r. ⌜ r ≡ foundOf e (now (body .entry)) (now (current .entry)) ⌝ }
 {
     let head = e.head;
     let a = e.args;
@@ -117,12 +120,32 @@ fn keep(e: Shape, n: usize, body: &[u8], current: &mut [u8]) -> usize
     len
 }
 
-fn is_same(part: Part) -> bool {
-    if let Part::Same = part { true } else { false }
+fn is_same(part: Part) -> bool
+    ensures { λ r. ⌜ r ≡ isSame part ⌝ }
+{
+    match part {
+        Part::Same => true,
+        Part::Unread => false,
+        Part::Refusal => false,
+        Part::Answer => false,
+        Part::State(_) => false,
+        Part::Record(_) => false,
+        Part::Result(_) => false,
+    }
 }
 
-fn is_unread(part: Part) -> bool {
-    if let Part::Unread = part { true } else { false }
+fn is_unread(part: Part) -> bool
+    ensures { λ r. ⌜ r ≡ isUnread part ⌝ }
+{
+    match part {
+        Part::Same => false,
+        Part::Unread => true,
+        Part::Refusal => false,
+        Part::Answer => false,
+        Part::State(_) => false,
+        Part::Record(_) => false,
+        Part::Result(_) => false,
+    }
 }
 
 // The first difference is told, or each of them.
@@ -135,14 +158,16 @@ fn tell(run: Run, each: bool, call: u8, part: Part) {
     }
 }
 
-fn one_if(b: bool) -> u64 {
+fn one_if(b: bool) -> u64
+    ensures { λ r. ⌜ r ≡ oneIf b ⌝ }
+{
     if b { 1 } else { 0 }
 }
 
 // The run after an entry.
 fn after(run: Run, e: Shape, part: Part, state: usize) -> Run
     requires { ⌜ Lengths (e .args) (e .state) (e .result) ⌝ }
-    ensures { λ r. ⌜ r .state ≡ state ⌝ }
+    ensures { λ r. ⌜ r ≡ afterOf run e part state ⌝ }
 {
     let head = e.head;
     let n = (HEADER + e.args + e.state + e.result) as u64;
@@ -195,6 +220,10 @@ pub fn replay(each: bool) {
         run = t.run;
         more = t.more;
         turns -= 1;
+    }
+    if run.entries == 0 {
+        say_nothing();
+        return;
     }
     say_verdict(run.calls, run.differ);
 }

@@ -1,13 +1,12 @@
 // What a replay tells on standard output.
-use libc::STDOUT_FILENO;
 use trace_verdict::Part;
 
 fn say(text: &[u8]) {
-    io::write_all(STDOUT_FILENO, text);
+    streams::write(text);
 }
 
 fn say_number(n: u64) {
-    io::print_decimal(STDOUT_FILENO, n);
+    streams::write_number(n);
 }
 
 fn say_at(part: &[u8], byte: usize) {
@@ -47,4 +46,9 @@ pub fn say_verdict(calls: u64, differ: u64) {
     say(b" calls, ");
     say_number(differ);
     say(b" differ\n");
+}
+
+// Tells that no entry was read.
+pub fn say_nothing() {
+    say(b"no entry: the input is empty or can't be read\n");
 }

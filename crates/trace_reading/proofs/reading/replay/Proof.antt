@@ -42,6 +42,9 @@ loop-again c = c .before .before .before .turn .ensures
 returns : tie.Need-returns Inv-loop μ-loop
 returns c = tt
 
+returns-2 : tie.Need-returns-2 Inv-loop μ-loop
+returns-2 c = tt
+
 pub replay-spec : {M : Type 1} → statement M
 replay-spec =
     tie.close
@@ -56,4 +59,6 @@ replay-spec =
     loop-less
     loop-again
     (λ c κs. search needs)
-    returns)
+    returns
+    (λ c κs. search needs)
+    returns-2)

@@ -3,6 +3,7 @@ use borrow.Author.Needs.{needs}
 use native.Mathlib.Omega.{arith}
 use mathlib.Core.Path.{sym}
 use lib.Seq.{length-take-le}
+use Rattle.trace_reading.specs.Run.{afterOf}
 use Rattle.trace_reading.proofs.reading.turn.Statement.{statement}
 use Rattle.trace_reading.proofs.reading.turn.Tie as tie
 
@@ -12,6 +13,7 @@ slice-aggregate-judged c =
     sym (length-take-le _ (k1 .args .current .now) (omega (arith, k1 .pre .room, k1 .pre .inside)))
 
 returns-2 : tie.Need-returns-2
+unfolding afterOf
 returns-2 c =
     let k1 = c .before .before .before .before .before .before in
     let k2 = k1 .before .before .before .before .before .before .before .before .before .before .before .before .before in
