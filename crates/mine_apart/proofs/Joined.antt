@@ -1,6 +1,6 @@
 -- Creatures and the lists that they are taken apart into. Assumes nothing.
 use mathlib.Core.Bool.{true, _&&_}
-use mathlib.Core.List.{List, [], _∷_}
+use mathlib.Core.List.{List, [], _∷_, map}
 use mathlib.Core.Path.{_≡_, refl, sym, _∙_, ap}
 use Prim.Native.Nat.{ℕ, zero, suc, _+_, _/_, _%_, _<_}
 use native.Mathlib.Nat.{le-of-suc-le-suc, not-suc-le-zero}
@@ -15,30 +15,8 @@ use Rattle.mine_state.specs.declared.Enemy.{Enemy}
 use Rattle.mine_state.specs.State.{W, place, blankSlot}
 use Rattle.mine_state.specs.WellFormed.{isBlank}
 use Rattle.mine_state.proofs.Creatures.{map-inside}
-use Rattle.mine_apart.specs.CodeApart.{upTo, dirOf, spotsFrom, creature, joined}
+use Rattle.mine_apart.specs.CodeApart.{dirOf, spotsFrom, creature, joined}
 use Rattle.mine_state.specs.CodeState.{onMap, allOnMap}
-
--- the first n by f and d for the rest: how many, none, and one more
-module _ {A B : Type 0} (d : B) (f : A → B) where
-  pub length-up : (n : ℕ) (l : List A) → length (upTo d f n l) ≡ length l
-  length-up n [] = refl
-  length-up zero (a ∷ l) = ap suc (length-up zero l)
-  length-up (suc n) (a ∷ l) = ap suc (length-up n l)
-
-  up-none : (l : List A) → replicate (length l) d ≡ upTo d f 0 l
-  up-none [] = refl
-  up-none (a ∷ l) = ap (λ (t : List B). d ∷ t) (up-none l)
-
-  pub up-begins : (l : List A) {n : ℕ} → length l ≡ n → replicate n d ≡ upTo d f 0 l
-  up-begins l h = rw (← h) (up-none l)
-
-  grown : (n : ℕ) (l : List A) (e : A) → n < length l → set (upTo d f n l) n (f (getD l n e)) ≡ upTo d f (suc n) l
-  grown n [] e h = absurd (not-suc-le-zero h)
-  grown zero (a ∷ l) e h = refl
-  grown (suc n) (a ∷ l) e h = ap (λ (t : List B). f a ∷ t) (grown n l e (le-of-suc-le-suc h))
-
-  pub up-more : (n : ℕ) (l : List A) (e : A) → n < length l → set (upTo d f n l) n (f (getD l n e)) ≡ upTo d f (n + 1) l
-  up-more n l e h = rw (add-one n) (grown n l e h)
 
 suc-same : {a b : ℕ} → suc a ≡ suc b → a ≡ b
 suc-same e = omega arith
@@ -110,7 +88,7 @@ blank-is e h =
     rw (a, b, d)
 
 -- taken apart and put together
-pub joined-parted : (n : ℕ) (es : List Enemy) → allOnMap es ≡ true → all isBlank (drop n es) ≡ true → joined n (spotsFrom n es) (upTo 0 dirOf n es) ≡ es
+pub joined-parted : (n : ℕ) (es : List Enemy) → allOnMap es ≡ true → all isBlank (drop n es) ≡ true → joined n (spotsFrom n es) (map dirOf es) ≡ es
 unfolding joined
 joined-parted n [] p r = refl
 joined-parted zero (e ∷ es) p r =

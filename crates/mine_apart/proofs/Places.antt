@@ -1,13 +1,13 @@
 -- Places stand for the creatures: a search among the places finds the creature that a search among the creatures finds. Assumes nothing.
-use mathlib.Core.Bool.{Bool, true, false, _&&_, _||_, not}
+use mathlib.Core.Bool.{Bool, true, false, cond, _&&_, _||_, not}
 use mathlib.Core.List.{List, [], _∷_}
 use mathlib.Core.Path.{_≡_, refl, sym, _∙_, ap, subst}
 use Prim.Native.Nat.{ℕ, zero, suc, _+_, _<_, _≤_, _-_}
 use native.Mathlib.Nat.{le-of-suc-le-suc, not-suc-le-zero}
 use native.Mathlib.Omega.{arith}
-use lib.Dec.{eqb}
-use lib.ListN.{length, getD, take, drop, set}
-use borrow.Author.Tests.{ne-eqb}
+use lib.Dec.{eqb, ltb}
+use lib.ListN.{length, length-map, getD, take, drop, set}
+use borrow.Author.Tests.{ne-eqb, ltb-true, ltb-false, lt-ltb, le-ltb}
 use Rattle.laws.specs.Lists.{any}
 use Rattle.laws.proofs.Choice.{and-left, and-right}
 use Rattle.found.specs.First.{firstFrom, first, nobody, number}
@@ -23,7 +23,7 @@ use Rattle.mine_state.proofs.Creatures.{found-below, map-inside}
 use Rattle.mine_state.proofs.Facts.{sound}
 use Rattle.mine_apart.specs.declared.Parts.{Parts}
 use Rattle.mine_apart.specs.CodeApart.{spotOf, dirOf, spotsFrom, parted, joined, isSpot, firstSpot, freeSpot, Spotted, Apart, Stand}
-use Rattle.mine_apart.proofs.Joined.{length-up, joined-parted}
+use Rattle.mine_apart.proofs.Joined.{joined-parted}
 use Rattle.mine_state.specs.CodeState.{onMap, allOnMap}
 
 -- no creature's place is AREA
@@ -45,8 +45,25 @@ spots-search x y hx hy (suc n) k (e ∷ l) a =
     let c = sym (from-number (isSpot (place x y)) (k + 1) (spotsFrom n l)) ∙ ap number q ∙ from-number (standsAt x y) (k + 1) (take n l) in
     rw (sym (same-place (e .x) (e .y) x y b hx), q, c)
 
+ltb-step : (i n : ℕ) (t : Bool) → ltb i n ≡ t → ltb (suc i) (suc n) ≡ t
+ltb-step i n true e = let h = ltb-true i n e in lt-ltb (suc i) (suc n) (omega arith)
+ltb-step i n false e = let h = ltb-false i n e in le-ltb (suc i) (suc n) (omega arith)
+
+-- the place that a slot has in the list of places
+pub spot-told : (n : ℕ) (l : List Enemy) (i : ℕ) → i < length l → getD (spotsFrom n l) i 0 ≡ cond (ltb i n) (spotOf (getD l i blankSlot)) AREA
+spot-told n [] i h = absurd (not-suc-le-zero h)
+spot-told zero (e ∷ l) zero h = refl
+spot-told (suc n) (e ∷ l) zero h = rw (lt-ltb 0 (suc n) (omega arith))
+spot-told zero (e ∷ l) (suc i) h = rw (le-ltb (suc i) 0 (omega arith)) (rw (le-ltb i 0 (omega arith)) at (spot-told zero l i (le-of-suc-le-suc h)))
+spot-told (suc n) (e ∷ l) (suc i) h = rw (ltb-step i n (ltb i n) refl) (spot-told n l i (le-of-suc-le-suc h))
+
+pub length-spots : (n : ℕ) (l : List Enemy) → length (spotsFrom n l) ≡ length l
+length-spots n [] = refl
+length-spots zero (e ∷ l) = ap suc (length-spots zero l)
+length-spots (suc n) (e ∷ l) = ap suc (length-spots n l)
+
 -- each is a place, or AREA
-spot-small : (n : ℕ) (l : List Enemy) (i : ℕ) → allOnMap l ≡ true → getD (spotsFrom n l) i 0 ≤ AREA
+pub spot-small : (n : ℕ) (l : List Enemy) (i : ℕ) → allOnMap l ≡ true → getD (spotsFrom n l) i 0 ≤ AREA
 spot-small n [] i a = omega arith
 spot-small zero (e ∷ l) zero a = omega arith
 spot-small (suc n) (e ∷ l) zero a = let h = map-inside e (and-left (onMap e) (allOnMap l) a) in omega (arith, h .0, h .1)
@@ -137,8 +154,8 @@ module _ (m : Mine) (w : WellFormed m) {r : Parts} (e : r ≡ parted (m .enemies
   pub apart-of : Apart (m .count) (r .spots) (r .dirs)
   apart-of =
       record {
-        slots = ap (λ (p : Parts). length (p .spots)) e ∙ length-up AREA spotOf (m .count) (m .enemies) ∙ w .slots;
-        ways = ap (λ (p : Parts). length (p .dirs)) e ∙ length-up 0 dirOf (m .count) (m .enemies) ∙ w .slots;
+        slots = ap (λ (p : Parts). length (p .spots)) e ∙ length-spots (m .count) (m .enemies) ∙ w .slots;
+        ways = ap (λ (p : Parts). length (p .dirs)) e ∙ length-map (m .enemies) dirOf ∙ w .slots;
         few = w .few;
         spotted = subst (λ (es : List Enemy). Spotted es (m .count) (r .spots)) (sym whole-again) spotted-of;
       }

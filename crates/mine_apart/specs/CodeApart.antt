@@ -1,6 +1,6 @@
 -- Creatures taken apart into places and directions, and who stands where by places. No promise of a public call cites it.
 use mathlib.Core.Bool.{Bool, true, _&&_, not}
-use mathlib.Core.List.{List, [], _∷_}
+use mathlib.Core.List.{List, [], _∷_, map}
 use mathlib.Core.Path.{_≡_}
 use Prim.Native.Nat.{ℕ, zero, suc, _/_, _%_, _<_, _≤_}
 use lib.Dec.{eqb}
@@ -13,25 +13,21 @@ use Rattle.mine_state.specs.State.{W, AREA, MAX-ENEMIES, place, emptyAt, blankS
 use Rattle.mine_apart.specs.declared.Parts.{Parts}
 use Rattle.mine_state.specs.CodeState.{allOnMap}
 
--- the first n of a list by f, and d for each of the rest
-abbrev pub upTo : {A B : Type 0} → B → (A → B) → ℕ → List A → List B
-upTo d f n [] = []
-upTo d f zero (a ∷ l) = d ∷ upTo d f zero l
-upTo d f (suc n) (a ∷ l) = f a ∷ upTo d f n l
-
 abbrev pub spotOf : Enemy → ℕ
 spotOf e = place (e .x) (e .y)
 
 abbrev pub dirOf : Enemy → ℕ
 dirOf e = e .dir
 
--- the places of the first n creatures, and AREA, which is no place, for each of the rest
+-- the places of the first n creatures of a list, and AREA, which is no place, for each of the rest
 abbrev pub spotsFrom : ℕ → List Enemy → List ℕ
-spotsFrom n es = upTo AREA spotOf n es
+spotsFrom n [] = []
+spotsFrom zero (e ∷ es) = AREA ∷ spotsFrom zero es
+spotsFrom (suc n) (e ∷ es) = spotOf e ∷ spotsFrom n es
 
 -- the first n creatures taken apart
 abbrev pub parted : List Enemy → ℕ → Parts
-parted es n = record { spots = spotsFrom n es; dirs = upTo 0 dirOf n es }
+parted es n = record { spots = spotsFrom n es; dirs = map dirOf es }
 
 -- and put together again: a place tells its column and its row
 abbrev pub creature : ℕ → ℕ → Enemy

@@ -6,10 +6,11 @@ use mine_state::Enemy;
 use mine_state::H;
 use mine_state::MAX_ENEMIES;
 use mine_state::W;
+ghost use mathlib.Core.Bool.{cond};
 ghost use mathlib.Core.Path.{_≡_};
 ghost use lib.ListN.{length, drop};
 ghost use Rattle.laws.specs.Lists.{any, count};
-ghost use Rattle.mine_state.specs.State.{MAX-ENEMIES};
+ghost use Rattle.mine_state.specs.State.{AREA, MAX-ENEMIES};
 ghost use Rattle.mine_apart.specs.CodeApart.{Takes, parted, joined, Apart, isSpot, firstSpot, freeSpot, Asks, Lent};
 
 // The place of nobody: of a slot past the count.
@@ -21,6 +22,17 @@ pub struct Parts {
     pub dirs: [u8; MAX_ENEMIES],
 }
 
+// The place of a creature that is there, and nobody's for a slot past the count.
+fn spot_or(there: bool, at: usize) -> usize
+    ensures { λ r. ⌜ r ≡ cond there at AREA ⌝ }
+{
+    if there {
+        return at;
+    }
+    AREA
+}
+
+// All slots in one loop without a branch: so they are stored together, and can be loaded together at once.
 pub fn parts_of(enemies: [Enemy; MAX_ENEMIES], count: usize) -> Parts
     requires { ⌜ Takes enemies count ⌝ }
     ensures { λ r. ⌜ r ≡ parted enemies count ⌝ }
@@ -28,9 +40,9 @@ pub fn parts_of(enemies: [Enemy; MAX_ENEMIES], count: usize) -> Parts
     let mut spots: [u16; MAX_ENEMIES] = [NOWHERE; MAX_ENEMIES];
     let mut dirs: [u8; MAX_ENEMIES] = [0; MAX_ENEMIES];
     let mut i: usize = 0;
-    while i < count {
+    while i < MAX_ENEMIES {
         let e = enemies[i];
-        let at = e.y * W + e.x;
+        let at = spot_or(i < count, e.y * W + e.x);
         spots[i] = at as u16;
         dirs[i] = e.dir;
         i += 1;

@@ -1,11 +1,10 @@
-use mathlib.Core.Path.{_≡_, refl, sym, _∙_, ap}
+use mathlib.Core.Path.{_≡_, sym, _∙_, ap}
 use mathlib.Core.List.{List}
 use Prim.Native.Nat.{ℕ, _≤_, _-_}
 use native.Mathlib.Omega.{arith}
 use lib.ListN.{getD, set}
 use borrow.Author.Needs.{needs}
 use Rattle.mine_state.specs.declared.Enemy.{Enemy}
-use Rattle.mine_state.specs.State.{MAX-ENEMIES}
 use Rattle.mine_apart.specs.CodeApart.{creature, joined}
 use Rattle.mine_apart.proofs.Places.{spot-inside}
 use Rattle.mine_apart.proofs.Joined.{joined-begins, joined-more}

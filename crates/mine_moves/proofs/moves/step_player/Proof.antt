@@ -1,6 +1,5 @@
-use mathlib.Core.Path.{sym, ap}
+use mathlib.Core.Path.{sym}
 use native.Mathlib.Omega.{arith}
-use borrow.Author.Needs.{needs}
 use Rattle.mine_state.proofs.Facts.{sound}
 use Rattle.mine_rules.proofs.Next.{home}
 use Rattle.mine_apart.proofs.Places.{spotted-of, apart-of}
