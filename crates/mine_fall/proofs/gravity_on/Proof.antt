@@ -181,7 +181,10 @@ cell-fall-requires : tie.Need-cell-fall-requires Inv-loop2 μ-loop2 Inv-loop μ-
 cell-fall-requires c κs =
     let k = c .before .before .before .before .loop2 in
     let d = k .inv .3 nothing in
-    record { here = record { cell = record { cells = d .sound .cells; across = c .before .before .before .loop2-test .taken; down = k .inv .1 }; marks = d .sound .marks }; slots = k .inv .2 .slots }
+    record {
+      here = record { cell = record { cells = d .sound .cells; across = c .before .before .before .loop2-test .taken; down = k .inv .1 }; marks = d .sound .marks };
+      slots = k .inv .2 .slots;
+    }
 
 add-x : tie.Need-add-x Inv-loop2 μ-loop2 Inv-loop μ-loop
 add-x c = omega arith
