@@ -4,6 +4,7 @@ use mathlib.Core.List.{List}
 use Prim.Native.Nat.{ℕ, _+_, _-_, _%_}
 use lib.Dec.{eqb}
 use lib.ListN.{getD, take, drop}
+use Rattle.laws.specs.Lists.{bit}
 use Rattle.trace_verdict.specs.declared.Head.{Head}
 use Rattle.trace_verdict.specs.declared.Part.{Part}
 use Rattle.trace_verdict.specs.declared.Part.the-variants.{Same, Unread, Refusal, Answer, State, Record, Result}
@@ -49,10 +50,6 @@ isUnread (State i) = false
 isUnread (Record i) = false
 isUnread (Result i) = false
 
--- 1 for what is so, 0 for what isn't
-abbrev pub oneIf : Bool → ℕ
-oneIf b = cond b 1 0
-
 -- numbers of 64 bits, which no run uses up
 abbrev pub wrapped : ℕ → ℕ
 wrapped n = n % 18446744073709551616
@@ -63,7 +60,7 @@ afterOf run e part state =
     record {
       entries = wrapped (run .entries + 1);
       offset = wrapped (run .offset + (HEADER + e .args + e .state + e .result));
-      calls = wrapped (run .calls + oneIf (e .whole && not (eqb (e .head .call) 0)));
-      differ = wrapped (run .differ + oneIf (not (isSame part)));
+      calls = wrapped (run .calls + bit (e .whole && not (eqb (e .head .call) 0)));
+      differ = wrapped (run .differ + bit (not (isSame part)));
       state = state;
     }

@@ -13,7 +13,8 @@ ghost use mathlib.Core.Path.{_≡_};
 ghost use Prim.Native.Nat.{_<_};
 ghost use lib.ListN.{length};
 ghost use Rattle.trace_words.specs.Numbers.{InWord};
-ghost use Rattle.trace_reading.specs.Run.{HEADER, headOf, foundOf, isSame, isUnread, oneIf, afterOf};
+ghost use Rattle.trace_reading.specs.Run.{HEADER, headOf, foundOf, isSame, isUnread, afterOf};
+ghost use Rattle.laws.specs.Lists.{bit};
 ghost use Rattle.trace_reading.specs.CodeBuffers.{BODY, MOST, Lengths, Buffers};
 
 // A header's bytes.
@@ -159,7 +160,7 @@ fn tell(run: Run, each: bool, call: u8, part: Part) {
 }
 
 fn one_if(b: bool) -> u64
-    ensures { λ r. ⌜ r ≡ oneIf b ⌝ }
+    ensures { λ r. ⌜ r ≡ bit b ⌝ }
 {
     if b { 1 } else { 0 }
 }
