@@ -1,4 +1,4 @@
--- When a step closes a cut and when it lays line, and what a step does to the accounts.
+-- When a step lays line, what one that closes a cut is, and what a step does to the accounts.
 use mathlib.Core.Bool.{Bool, true, false, cond, _&&_}
 use mathlib.Core.Path.{_≡_}
 use Prim.Native.Nat.{ℕ, _+_}
@@ -11,7 +11,7 @@ use Rattle.cutter_state.specs.WellFormed.{WellFormed}
 use Rattle.cutter_rules.specs.Step.{target, entered, cutClosed, atBorder, stepped, advances, closes}
 use Rattle.cutter_keeps.specs.Kept.{Kept, Laid, Closed}
 
--- that is the step of document 01 that enters, closes the cut and then moves to the border
+-- a step that closes a cut is the one of document 01 that enters, closes the cut and then moves to the border
 abbrev pub ClosesStep : Type 0
 ClosesStep = (c : Cutter) → closes c ≡ true → stepped c ≡ atBorder (cutClosed (entered c (target c)))
 

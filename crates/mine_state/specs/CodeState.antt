@@ -23,7 +23,7 @@ pub record CellOf (g : List ℕ) (x y : ℕ) : Type 0 where
   pub across : x < W
   pub down : y < H
 
--- the part of it that the rules' code needs, and that every single step keeps
+-- the part of a well-formed state that the rules' code needs, and that every single step keeps
 pub record Sound (m : Mine) : Type 0 where
   pub cells : length (m .grid) ≡ AREA
   pub marks : length (m .falling) ≡ AREA
