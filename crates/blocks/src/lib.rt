@@ -1,7 +1,6 @@
 // A frame as text: two rows of pixels to a line, a block for each pair.
 use frame::FRAME_LEN;
 use frame::PAGE_LEN;
-use libc::STDOUT_FILENO;
 ghost use mathlib.Core.Path.{_≡_};
 ghost use Prim.Native.Nat.{_+_, _<_, _≤_};
 ghost use lib.ListN.{length};
@@ -37,7 +36,7 @@ fn put_pair(out: &mut [u8; LINE], at: usize, pair: u8) -> usize
     at + 3
 }
 
-// Writes line y.
+// Writes line y; false where that failed.
 fn put_line(frame: &[u8; FRAME_LEN], y: usize) -> bool
     requires { ⌜ Line (now frame) y ⌝ }
 {
@@ -53,16 +52,19 @@ fn put_line(frame: &[u8; FRAME_LEN], y: usize) -> bool
     }
     out[at] = b'\n';
     let end = at + 1;
-    io::write_all(STDOUT_FILENO, &out[..end])
+    streams::write(&out[..end])
 }
 
-// Writes a whole frame.
-pub fn put_frame(frame: &[u8; FRAME_LEN])
+// Writes a whole frame; false where that failed.
+pub fn put_frame(frame: &[u8; FRAME_LEN]) -> bool
     requires { ⌜ length (now frame) ≡ 1024 ⌝ }
 {
     let mut y: usize = 0;
     while y < LINES {
-        put_line(frame, y);
+        if !put_line(frame, y) {
+            return false;
+        }
         y += 1;
     }
+    true
 }

@@ -5,7 +5,6 @@ use console_turns::MOST_DRAWS;
 use console_turns::MinePlay;
 use console_turns::QUIT;
 use libc::STDIN_FILENO;
-use libc::STDOUT_FILENO;
 
 // Turns at most: more than five hours.
 const TURNS: u32 = 4_000_000;
@@ -42,7 +41,7 @@ fn on_terminal() -> bool {
 fn listen(terminal: bool, bytes: &mut [u8]) -> Input {
     let got = libc::read(STDIN_FILENO, bytes);
     let count = io::count(got, bytes);
-    if got < 0 {
+    if streams::read_failed(got) {
         return Input { count, ended: true };
     }
     if count == 0 {
@@ -78,7 +77,7 @@ fn mine_step(m: Mining, terminal: bool) -> Mining {
 }
 
 fn tell_spent() {
-    io::write_all(STDOUT_FILENO, b"no turn is left\n");
+    streams::write(b"no turn is left\n");
 }
 
 pub fn play_mine() {
@@ -90,16 +89,22 @@ pub fn play_mine() {
         ended: false,
     };
     let mut shown = console_screens::mine_screen(start);
-    console_screens::begin(shown);
+    if !console_screens::begin(shown) {
+        return;
+    }
     let mut turn: u32 = 0;
     while turn < TURNS {
         turn += 1;
         m = mine_step(m, terminal);
         let play = m.play;
-        shown = console_screens::refresh(console_screens::mine_screen(play), shown);
+        let screen = console_screens::mine_screen(play);
+        if !console_screens::refresh(screen, shown) {
+            return;
+        }
         if m.ended {
             return;
         }
+        shown = screen;
         console_clock::nap(NAP);
     }
     tell_spent();
@@ -160,17 +165,23 @@ pub fn play_cutter(fixed: bool, word: [u8; MOST_DRAWS]) {
         ended: false,
     };
     let mut shown = console_screens::cutter_screen(start);
-    console_screens::begin(shown);
+    if !console_screens::begin(shown) {
+        return;
+    }
     let mut turn: u32 = 0;
     while turn < TURNS {
         turn += 1;
         let before = c.play;
         c = cutter_step(c, terminal, next_draws(before, fixed, word));
         let play = c.play;
-        shown = console_screens::refresh(console_screens::cutter_screen(play), shown);
+        let screen = console_screens::cutter_screen(play);
+        if !console_screens::refresh(screen, shown) {
+            return;
+        }
         if c.ended {
             return;
         }
+        shown = screen;
         console_clock::nap(NAP);
     }
     tell_spent();

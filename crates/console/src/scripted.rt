@@ -1,6 +1,5 @@
 // A script of bytes, one to a turn, with a clock of its own.
 use console_turns::MOST_DRAWS;
-use libc::STDIN_FILENO;
 use std::num::wrapping_add_u32;
 ghost use Prim.Native.Nat.{_≤_};
 ghost use lib.ListN.{length};
@@ -27,7 +26,9 @@ fn play_mine(bytes: &[u8]) -> usize
             return i;
         }
         if b == SHOW {
-            console_screens::show(console_screens::mine_screen(p));
+            if !console_screens::show(console_screens::mine_screen(p)) {
+                return bytes.len();
+            }
         } else {
             time = wrapping_add_u32(time, STEP);
             let mut key = [b];
@@ -49,7 +50,9 @@ fn play_cutter(bytes: &[u8], draws: [u8; MOST_DRAWS]) {
         let b = bytes[i];
         i += 1;
         if b == SHOW {
-            console_screens::show(console_screens::cutter_screen(p));
+            if !console_screens::show(console_screens::cutter_screen(p)) {
+                return;
+            }
         } else {
             time = wrapping_add_u32(time, STEP);
             let mut key = [b];
@@ -64,7 +67,7 @@ pub fn play_script(word: [u8; MOST_DRAWS]) {
     let mut draws = word;
     console_turns::to_draws(&mut draws);
     let mut input = io::large_buffer();
-    let n = io::read_full(STDIN_FILENO, &mut input);
+    let n = streams::read_full(&mut input);
     let text = &input[..n];
     let k = play_mine(text);
     play_cutter(&text[k..], draws);

@@ -4,7 +4,6 @@ use check::same;
 use console_turns::CutterPlay;
 use console_turns::MinePlay;
 use frame::FRAME_LEN;
-use libc::STDOUT_FILENO;
 ghost use Rattle.io.specs.Counts.{Counts};
 ghost use Rattle.console_screens.specs.Screens.{MineShown, CutterShown};
 
@@ -48,35 +47,42 @@ pub fn within(n: usize, buf: &[u8]) -> usize
     buf.len()
 }
 
-// The head line and the frame, as they stand.
-pub fn show(s: Screen) {
+// The head line and the frame, as they stand; false where that failed.
+pub fn show(s: Screen) -> bool {
     let head = s.head;
     let end = within(s.end, &head);
-    io::write_all(STDOUT_FILENO, &head[..end]);
-    io::write_all(STDOUT_FILENO, b"\n");
+    if !streams::write(&head[..end]) {
+        return false;
+    }
+    if !streams::write(b"\n") {
+        return false;
+    }
     let frame = s.frame;
-    blocks::put_frame(&frame);
+    blocks::put_frame(&frame)
 }
 
-// Shows a screen in place of another, where they differ.
-pub fn refresh(s: Screen, shown: Screen) -> Screen {
+// Shows a screen in place of another, where they differ; false where that failed.
+pub fn refresh(s: Screen, shown: Screen) -> bool {
     let frame = s.frame;
     let before = shown.frame;
     let head = s.head;
     let above = shown.head;
     if same(&frame, &before) {
         if same(&head, &above) {
-            return s;
+            return true;
         }
     }
     // The cursor to the top left, and the old head line away.
-    io::write_all(STDOUT_FILENO, b"\x1b[H\x1b[K");
-    show(s);
-    s
+    if !streams::write(b"\x1b[H\x1b[K") {
+        return false;
+    }
+    show(s)
 }
 
-// A cleared terminal, and the first screen.
-pub fn begin(s: Screen) {
-    io::write_all(STDOUT_FILENO, b"\x1b[2J\x1b[H");
-    show(s);
+// A cleared terminal, and the first screen; false where that failed.
+pub fn begin(s: Screen) -> bool {
+    if !streams::write(b"\x1b[2J\x1b[H") {
+        return false;
+    }
+    show(s)
 }

@@ -4,7 +4,6 @@
 // stdin: oracle/cases/mines_play.txt's play, then a cut in its middle. stdout: what the oracle's
 // `show_oracle mines` and `show_oracle cuts` print for the two parts, one after the other.
 use cutter_state::Cutter;
-use libc::STDIN_FILENO;
 use lines::BAR;
 use lines::cut_byte;
 use lines::cut_start;
@@ -63,11 +62,13 @@ fn play(bytes: &[u8]) -> Plays {
 
 fn main() {
     let mut input = io::buffer();
-    let n = io::read_full(STDIN_FILENO, &mut input);
+    let n = streams::read_full(&mut input);
     let p = play(&input[..n]);
     let mut frame = [0u8; frame::FRAME_LEN];
     mine::render(p.mine, &mut frame);
-    blocks::put_frame(&frame);
+    if !blocks::put_frame(&frame) {
+        return;
+    }
     cutter::render(p.cut, &mut frame);
     blocks::put_frame(&frame);
 }

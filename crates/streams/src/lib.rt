@@ -3,13 +3,21 @@ use libc::STDIN_FILENO;
 use libc::STDOUT_FILENO;
 ghost use Rattle.io.specs.Counts.{Counts};
 
+// Whether a read failed, by what it answered; tells it.
+pub fn read_failed(got: isize) -> bool {
+    if got < 0 {
+        os::fail(b"standard input");
+        return true;
+    }
+    false
+}
+
 // One read: how many bytes came, 0 where the input has ended or the read failed.
 pub fn read(buf: &mut [u8]) -> usize
     ensures { λ r. ⌜ Counts r (now (buf .exit)) ⌝ }
 {
     let got = libc::read(STDIN_FILENO, buf);
-    if got < 0 {
-        os::fail(b"standard input");
+    if read_failed(got) {
         return 0;
     }
     io::count(got, buf)

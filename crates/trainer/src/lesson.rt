@@ -6,7 +6,6 @@ use cutter_ground::CW;
 use cutter_ground::MAX_ENEMIES;
 use cutter_ground::Mover;
 use cutter_state::Cutter;
-use libc::STDOUT_FILENO;
 ghost use mathlib.Core.Path.{_≡_};
 ghost use lib.ListN.{length, getD, take};
 ghost use Rattle.laws.specs.Lists.{tally};
@@ -16,11 +15,11 @@ ghost use Rattle.cutter_sweeps.specs.CodeTable.{Numbers};
 ghost use Rattle.trainer.specs.Regions.{onNumber};
 
 fn say(text: &[u8]) {
-    io::write_all(STDOUT_FILENO, text);
+    streams::write(text);
 }
 
 fn say_number(n: u64) {
-    io::print_decimal(STDOUT_FILENO, n);
+    streams::write_number(n);
 }
 
 fn tell_sweep(k: u64, changed: u16, left: u16) {

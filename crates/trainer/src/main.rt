@@ -8,8 +8,6 @@ mod lesson;
 
 use cutter_state::Cutter;
 use lesson::tell_closing;
-use libc::STDIN_FILENO;
-use libc::STDOUT_FILENO;
 use lines::cut_byte;
 use lines::cut_numbers;
 use lines::cut_start;
@@ -24,11 +22,11 @@ struct Turn {
     more: bool,
 }
 
-// The line that `cuts` prints.
-fn tell_line(says: Says, game: Cutter) {
+// The line that `cuts` prints; false where that failed.
+fn tell_line(says: Says, game: Cutter) -> bool {
     let mut out = [0u8; LINE];
     let end = text::put_line(says, cut_numbers(game), &mut out, 0);
-    io::write_all(STDOUT_FILENO, &out[..end]);
+    streams::write(&out[..end])
 }
 
 // Only a step that closes a cut ends the line.
@@ -41,40 +39,42 @@ fn tell_step(c: Cutter, game: Cutter) {
     }
 }
 
-fn play_byte(c: Cutter, b: u8) -> Cutter {
+fn play_byte(c: Cutter, b: u8) -> Turn {
     let said = cut_byte(c, b);
     let says = said.says;
     let game = said.game;
     if b == b's' {
         tell_step(c, game);
     }
-    tell_line(says, game);
-    game
+    let more = tell_line(says, game);
+    Turn { game, more }
 }
 
-fn play_bytes(c: Cutter, bytes: &[u8]) -> Cutter {
+fn play_bytes(c: Cutter, bytes: &[u8]) -> Turn {
     let mut game = c;
     let mut i: usize = 0;
     while i < bytes.len() {
-        game = play_byte(game, bytes[i]);
+        let turn = play_byte(game, bytes[i]);
+        if !turn.more {
+            return turn;
+        }
+        game = turn.game;
         i += 1;
     }
-    game
+    Turn { game, more: true }
 }
 
 // Reads once and plays what came; answers whether there may be more.
 fn take_turn(c: Cutter) -> Turn {
     let mut input = [0u8; READ];
-    let got = libc::read(STDIN_FILENO, &mut input);
-    let n = io::count(got, &input);
+    let n = streams::read(&mut input);
     if n == 0 {
         return Turn {
             game: c,
             more: false,
         };
     }
-    let game = play_bytes(c, &input[..n]);
-    Turn { game, more: true }
+    play_bytes(c, &input[..n])
 }
 
 // To the end of the input; turns are counted down from a number that no run uses up.

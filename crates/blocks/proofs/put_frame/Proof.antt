@@ -29,4 +29,4 @@ loop-again c = omega arith
 pub put-frame-spec : {M : Type 1} → statement M
 put-frame-spec =
     tie.close
-    (tie.spec Inv-loop μ-loop loop-holds put-line-requires add-y loop-less loop-again (λ c. search needs))
+    (tie.spec Inv-loop μ-loop loop-holds put-line-requires (λ c. search needs) add-y loop-less loop-again (λ c. search needs))

@@ -26,8 +26,8 @@ loop-again c = (omega arith, omega (arith, c .«put-pair» .ensures .0), c .«pu
 array-share-prefix-out : tie.Need-array-share-prefix-out Inv-loop μ-loop
 array-share-prefix-out c = simp length-set (omega arith)
 
-slice-aggregate-write-all : tie.Need-slice-aggregate-write-all Inv-loop μ-loop
-slice-aggregate-write-all c =
+slice-aggregate-write : tie.Need-slice-aggregate-write Inv-loop μ-loop
+slice-aggregate-write c =
     let k = c .before .before .loop in
     sym (length-take-le (k .at + 1) (set (k .out) (k .at) 10) (simp length-set (omega arith)))
 
@@ -51,6 +51,6 @@ put-line-spec =
     (λ c. search needs)
     (λ c. search needs)
     array-share-prefix-out
-    slice-aggregate-write-all
+    slice-aggregate-write
     (λ c κs. search needs)
     (λ c. search needs))

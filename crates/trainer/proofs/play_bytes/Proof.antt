@@ -31,6 +31,7 @@ play-bytes-spec =
     (λ c. search needs)
     (λ c κs. search needs)
     (λ c. search needs)
+    (λ c. search needs)
     loop-less
     loop-again
     (λ c. search needs))

@@ -31,11 +31,13 @@ play-mine-spec =
     (λ c κs. search needs)
     (λ c κs. search needs)
     (λ c κs. search needs)
+    (λ c. search needs)
     loop-holds
     (λ c. search needs)
     (λ c κs. search needs)
     (λ c κs. search needs)
     (λ c κs. search needs)
+    (λ c. search needs)
     (λ c. search needs)
     (λ c κs. search needs)
     loop-less

@@ -44,6 +44,7 @@ play-cutter-spec =
     (λ c. search needs)
     (λ c κs. search needs)
     (λ c κs. search needs)
+    (λ c. search needs)
     loop-less
     loop-again
     (λ c κs. search needs)

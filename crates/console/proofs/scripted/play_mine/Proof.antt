@@ -41,6 +41,7 @@ play-mine-spec =
     (λ c. search needs)
     (λ c κs. search needs)
     (λ c κs. search needs)
+    (λ c. search needs)
     loop-less
     loop-again
     (λ c κs. search needs)
