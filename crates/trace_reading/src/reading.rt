@@ -11,11 +11,13 @@ use trace_words::put_cells;
 use trace_words::word;
 ghost use mathlib.Core.Path.{_≡_};
 ghost use Prim.Native.Nat.{_<_};
-ghost use lib.ListN.{length};
+ghost use lib.ListN.{length, take};
 ghost use Rattle.trace_words.specs.Numbers.{InWord};
 ghost use Rattle.trace_reading.specs.Run.{HEADER, headOf, foundOf, isSame, isUnread, afterOf};
 ghost use Rattle.laws.specs.Lists.{bit};
 ghost use Rattle.trace_reading.specs.CodeBuffers.{BODY, MOST, Lengths, Buffers};
+ghost use Rattle.trace_reading.specs.CodeTurns.{Turns};
+ghost use Rattle.trace_reading.specs.Told.{lengthAfter, Ran};
 
 // A header's bytes.
 const HEADER: usize = 12;
@@ -109,7 +111,7 @@ fn judged(e: Shape, body: &[u8], current: &[u8]) -> Part
 // The state that an entry gives becomes the current one, of which n bytes stood; its length.
 fn keep(e: Shape, n: usize, body: &[u8], current: &mut [u8]) -> usize
     requires { ⌜ Lengths (e .args) (e .state) (e .result) × Buffers (now body) (now current) n ⌝ }
-    ensures { λ r. ⌜ Buffers (now (body .entry)) (now (current .exit)) r ⌝ }
+    ensures { λ r. ⌜ Buffers (now (body .entry)) (now (current .exit)) r × (r ≡ lengthAfter (e .state) n) ⌝ }
 {
     let a = e.args;
     let len = e.state;
@@ -184,7 +186,8 @@ fn after(run: Run, e: Shape, part: Part, state: usize) -> Run
 // Reads an entry, makes its call, and tells what differs.
 fn turn(run: Run, each: bool, body: &mut [u8], current: &mut [u8]) -> Turned
     requires { ⌜ Buffers (now body) (now current) (run .state) ⌝ }
-    ensures { λ r. ⌜ Buffers (now (body .exit)) (now (current .exit)) (r .run .state) ⌝ }
+    ensures { λ r. ⌜ Buffers (now (body .exit)) (now (current .exit)) (r .run .state)
+        × Turns run (now (body .exit)) (take (run .state) (now (current .entry))) r ⌝ }
 {
     let e = read_entry(body);
     if e.over {
@@ -202,9 +205,11 @@ fn turn(run: Run, each: bool, body: &mut [u8], current: &mut [u8]) -> Turned
     }
 }
 
-// Replays standard input. A proved loop has to end, and nothing says that the input does: so it
-// counts its turns down, from a number that no run uses up.
-pub fn replay(each: bool) {
+// The run over the entries of standard input. A proved loop has to end, and nothing says that the
+// input does: so it counts its turns down, from a number that no run uses up.
+fn read_all(each: bool) -> Run
+    ensures { λ r. ⌜ Ran r ⌝ }
+{
     let mut body = [0u8; BODY];
     let mut current = [0u8; MOST];
     let mut run = Run {
@@ -222,6 +227,12 @@ pub fn replay(each: bool) {
         more = t.more;
         turns -= 1;
     }
+    run
+}
+
+// Replays standard input.
+pub fn replay(each: bool) {
+    let run = read_all(each);
     if run.entries == 0 {
         say_nothing();
         return;
