@@ -1,12 +1,9 @@
 -- `host::sumbadger_cutter_pass` meets its contract. Assumes nothing.
-use mathlib.Core.Path.{ap, _∙_}
 use borrow.Author.Needs.{needs}
-use Rattle.refusal.proofs.Calls.{turned-away, let-in}
-use Rattle.cutter_state.specs.declared.Cutter.{Cutter}
-use Rattle.cutter_pass.specs.declared.CutterTurn.{CutterTurn}
+use Rattle.refusal.proofs.Calls.{turned-away}
 use Rattle.cutter_pass.specs.Pass.{passAt}
-use Rattle.host_state.specs.Cutter.{gameOf}
 use Rattle.host.specs.Cutter.{turnOut, refusedPass, hostedPass}
+use Rattle.host.proofs.Hosted.{handed}
 use Rattle.host.proofs.cutter_calls.sumbadger_cutter_pass.Statement.{statement}
 use Rattle.host.proofs.cutter_calls.sumbadger_cutter_pass.Tie as tie
 
@@ -20,12 +17,10 @@ returns c =
 returns-2 : tie.Need-returns-2
 unfolding hostedPass
 returns-2 c =
-    let f = c .before .before .before .before in
-    let a = f .before .before .before .args in
-    let call : Cutter → CutterTurn = λ s. passAt s (a .keys .now) (a .draws .now) (a .time) (a .marks .first) (a .marks .second) in
-    let-in (refusedPass (a .h) (a .marks)) (turnOut (call (gameOf (a .h)))) (f .cutter-flags .ensures)
-    (c .turn-out .ensures ∙ ap turnOut (c .before .pass-marks .ensures ∙ ap call (c .before .before .cutter-game .ensures)))
-    (c .before .before .before .if1 .left)
+    let i = c .before .before .before in
+    let a = i .before .before .before .before .args in
+    handed (refusedPass (a .h) (a .marks)) turnOut (λ s. passAt s (a .keys .now) (a .draws .now) (a .time) (a .marks .first) (a .marks .second))
+    (i .before .cutter-flags .ensures) (i .if1 .left) (c .before .before .cutter-game .ensures) (c .before .pass-marks .ensures) (c .turn-out .ensures)
 
 pub sumbadger-cutter-pass-spec : {M : Type 1} → statement M
 sumbadger-cutter-pass-spec =

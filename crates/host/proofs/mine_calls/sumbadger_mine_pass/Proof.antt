@@ -1,12 +1,9 @@
 -- `host::sumbadger_mine_pass` meets its contract. Assumes nothing.
-use mathlib.Core.Path.{ap, _∙_}
 use borrow.Author.Needs.{needs}
-use Rattle.refusal.proofs.Calls.{turned-away, let-in}
-use Rattle.mine_state.specs.declared.Mine.{Mine}
-use Rattle.mine_pass.specs.declared.MineTurn.{MineTurn}
+use Rattle.refusal.proofs.Calls.{turned-away}
 use Rattle.mine_pass.specs.Pass.{passAt}
-use Rattle.host_state.specs.Mine.{gameOf}
 use Rattle.host.specs.Mine.{turnOut, refusedPass, hostedPass}
+use Rattle.host.proofs.Hosted.{handed}
 use Rattle.host.proofs.mine_calls.sumbadger_mine_pass.Statement.{statement}
 use Rattle.host.proofs.mine_calls.sumbadger_mine_pass.Tie as tie
 
@@ -20,12 +17,10 @@ returns c =
 returns-2 : tie.Need-returns-2
 unfolding hostedPass
 returns-2 c =
-    let f = c .before .before .before .before in
-    let a = f .before .before .args in
-    let call : Mine → MineTurn = λ s. passAt s (a .keys .now) (a .time) (a .marks .first) (a .marks .second) in
-    let-in (refusedPass (a .h) (a .marks)) (turnOut (call (gameOf (a .h)))) (f .mine-flags .ensures)
-    (c .turn-out .ensures ∙ ap turnOut (c .before .pass-marks .ensures ∙ ap call (c .before .before .mine-game .ensures)))
-    (c .before .before .before .if1 .left)
+    let i = c .before .before .before in
+    let a = i .before .before .before .args in
+    handed (refusedPass (a .h) (a .marks)) turnOut (λ s. passAt s (a .keys .now) (a .time) (a .marks .first) (a .marks .second))
+    (i .before .mine-flags .ensures) (i .if1 .left) (c .before .before .mine-game .ensures) (c .before .pass-marks .ensures) (c .turn-out .ensures)
 
 pub sumbadger-mine-pass-spec : {M : Type 1} → statement M
 sumbadger-mine-pass-spec =
