@@ -80,17 +80,21 @@ module _ (h : Head) (args current state result : List ℕ) where
   unfoldable pub cutterStarted : Cutter → Part
   cutterStarted c = exactly MARK args (cutterTold h current state result 0 0 c (started (wordAt MARK 0 args)))
 
-  -- on a state of Cutter
-  unfoldable pub onCutter : Cutter → Pace → Part
-  onCutter c p =
-      cond (eqb (h .call) 18) (cutterDirected c p)
-      (cond (eqb (h .call) 19) (cutterStepped c p)
-      (cond (eqb (h .call) 20) (cutterTicked c p)
-      (cond (eqb (h .call) 21) (cutterRespawned c p)
-      (cond (eqb (h .call) 22) (cutterLevelled c p)
-      (cond (eqb (h .call) 23) (cutterPassed c p)
-      (cond (eqb (h .call) 24) (cutterPictured c)
-      (cond (eqb (h .call) 25) (cutterReported c)
-      (cond (eqb (h .call) 29) (cutterSwept c p)
-      (cond (eqb (h .call) 32) (cutterStarted c)
+  -- call n on a state of Cutter
+  unfoldable pub cutterCall : ℕ → Cutter → Pace → Part
+  cutterCall n c p =
+      cond (eqb n 18) (cutterDirected c p)
+      (cond (eqb n 19) (cutterStepped c p)
+      (cond (eqb n 20) (cutterTicked c p)
+      (cond (eqb n 21) (cutterRespawned c p)
+      (cond (eqb n 22) (cutterLevelled c p)
+      (cond (eqb n 23) (cutterPassed c p)
+      (cond (eqb n 24) (cutterPictured c)
+      (cond (eqb n 25) (cutterReported c)
+      (cond (eqb n 29) (cutterSwept c p)
+      (cond (eqb n 32) (cutterStarted c)
       (onEither h args current state result p))))))))))
+
+  -- the entry's own
+  unfoldable pub onCutter : Cutter → Pace → Part
+  onCutter = cutterCall (h .call)

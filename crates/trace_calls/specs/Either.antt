@@ -33,12 +33,16 @@ module _ (h : Head) (args current state result : List ℕ) where
   unfoldable pub pageTold : Part
   pageTold = atLeast PLACE args (stays h current state result 0 (pageOf (drop PLACE args) (wordAt PLACE 0 args)))
 
-  -- the calls that either state allows
-  unfoldable pub onEither : Pace → Part
-  onEither p =
-      cond (eqb (h .call) 1) (mineLoaded p)
-      (cond (eqb (h .call) 7) (mineAsked h args current state result)
-      (cond (eqb (h .call) 17) (roundBegun p)
-      (cond (eqb (h .call) 26) (moverAsked h args current state result)
-      (cond (eqb (h .call) 33) pageTold
+  -- call n, of those that either state allows
+  unfoldable pub eitherCall : ℕ → Pace → Part
+  eitherCall n p =
+      cond (eqb n 1) (mineLoaded p)
+      (cond (eqb n 7) (mineAsked h args current state result)
+      (cond (eqb n 17) (roundBegun p)
+      (cond (eqb n 26) (moverAsked h args current state result)
+      (cond (eqb n 33) pageTold
       Unread))))
+
+  -- the entry's own
+  unfoldable pub onEither : Pace → Part
+  onEither = eitherCall (h .call)

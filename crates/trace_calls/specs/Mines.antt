@@ -50,13 +50,17 @@ module _ (h : Head) (args current state result : List ℕ) where
   unfoldable pub mineStarted : Mine → Part
   mineStarted m = exactly MARK args (mineTold h current state result 0 0 m (started (wordAt MARK 0 args)))
 
-  -- on a state of Mine
-  unfoldable pub onMine : Mine → Pace → Part
-  onMine m p =
-      cond (eqb (h .call) 2) (mineMoved m p)
-      (cond (eqb (h .call) 3) (mineFallen m p)
-      (cond (eqb (h .call) 4) (mineTicked m p)
-      (cond (eqb (h .call) 5) (minePassed m p)
-      (cond (eqb (h .call) 6) (minePictured m)
-      (cond (eqb (h .call) 32) (mineStarted m)
+  -- call n on a state of Mine
+  unfoldable pub mineCall : ℕ → Mine → Pace → Part
+  mineCall n m p =
+      cond (eqb n 2) (mineMoved m p)
+      (cond (eqb n 3) (mineFallen m p)
+      (cond (eqb n 4) (mineTicked m p)
+      (cond (eqb n 5) (minePassed m p)
+      (cond (eqb n 6) (minePictured m)
+      (cond (eqb n 32) (mineStarted m)
       (onEither h args current state result p))))))
+
+  -- the entry's own
+  unfoldable pub onMine : Mine → Pace → Part
+  onMine = mineCall (h .call)
