@@ -3,28 +3,27 @@ use cutter_ground::MAX_ENEMIES;
 use cutter_ground::Mover;
 use cutter_ground::stands_at;
 use found::Found;
+use found::Tally;
+use found::count_in;
+use found::told;
 ghost use mathlib.Core.Path.{_≡_};
 ghost use lib.ListN.{take};
 ghost use Rattle.cutter.specs.Question.{whoAt};
 
-// The first of a lent list at (x, y) and how many are there, or nobody. From the end on: the last one met is the first.
+// The first of a lent list at (x, y) and how many are there, or nobody: one pass, which goes on counting from the first on.
 pub fn who(list: &[Mover], x: usize, y: usize) -> Found
     ensures { λ r. ⌜ r ≡ whoAt (now (list .entry)) x y ⌝ }
 {
-    let mut first: usize = 0;
-    let mut number: usize = 0;
-    let mut i = list.len();
-    while 0 < i {
-        i -= 1;
-        if stands_at(list[i], x, y) {
-            first = i;
-            number += 1;
-        }
+    let mut met = Tally {
+        first: 0,
+        number: 0,
+    };
+    let mut i: usize = 0;
+    while i < list.len() {
+        met = count_in(met, stands_at(list[i], x, y));
+        i += 1;
     }
-    if number == 0 {
-        return Found::Nobody;
-    }
-    Found::At(first, number)
+    told(met)
 }
 
 // The same of the first n of an array, of all where n is more.

@@ -1,5 +1,6 @@
 // The ground of Block Cutter: 64 by 32 cells, numbered row by row, and the creatures that move on it.
 ghost use mathlib.Core.Path.{_≡_};
+ghost use Prim.Native.Nat.{_+_, _*_};
 ghost use lib.ListN.{length};
 ghost use Rattle.laws.specs.Lists.{tally};
 ghost use Rattle.cutter_ground.specs.Cells.{CN, cellAt, leftOf, rightOf, upOf, downOf, blackAt, onBorder, blackCount};
@@ -44,11 +45,24 @@ pub fn cell_of(e: Mover) -> usize
     (e.y as usize) * CW + (e.x as usize)
 }
 
-// The creature stands at (x, y).
+// Two bytes as one number.
+fn both_of(x: u8, y: u8) -> u32
+    ensures { λ r. ⌜ r ≡ x + 256 * y ⌝ }
+{
+    x as u32 + 256 * (y as u32)
+}
+
+// The creature stands at (x, y). One comparison where both are bytes, which a scan makes for many creatures.
 pub fn stands_at(e: Mover, x: usize, y: usize) -> bool
     ensures { λ r. ⌜ r ≡ standsAt x y e ⌝ }
 {
-    (e.x as usize == x) & (e.y as usize == y)
+    if 255 < x {
+        return false;
+    }
+    if 255 < y {
+        return false;
+    }
+    both_of(e.x, e.y) == both_of(x as u8, y as u8)
 }
 
 // What a cell holds; off the grid reads as claimed.

@@ -1,16 +1,13 @@
 -- Laws of the search for the first: a turn of a loop over a list, its end, and what is found. Assumes nothing.
 use mathlib.Core.Bool.{Bool, true, false, cond, not, _||_}
 use mathlib.Core.List.{List, [], _∷_}
-use mathlib.Core.Path.{_≡_, refl, sym, ap, subst, _∙_}
+use mathlib.Core.Path.{_≡_, refl, sym, ap, _∙_}
 use Prim.Native.Nat.{ℕ, zero, suc, _+_, _-_, _<_, _≤_}
-use native.Mathlib.Numerals.{add-one}
 use native.Mathlib.Omega.{arith}
-use lib.Dec.{T, T-not, eqb, eqb→eq, eqb-refl}
-use lib.ListN.{length, length-drop, getD, drop}
+use lib.Dec.{eqb}
+use lib.ListN.{length, drop}
 use borrow.Author.Tests.{ne-eqb}
 use Rattle.laws.specs.Lists.{any, count}
-use Rattle.laws.proofs.Lists.{drop-one}
-use Rattle.laws.proofs.Counts.{count-le}
 use Rattle.found.specs.First.{firstFrom, first, nobody, index, number}
 use Rattle.found.specs.declared.Found.{Found}
 use Rattle.found.specs.declared.Found.the-variants.{At, Nobody}
@@ -60,13 +57,9 @@ pub nobody-any : {A : Type 0} (test : A → Bool) (l : List A) → nobody (first
 nobody-any test l = from-nobody test 0 l
 
 -- the answer of an index and a number
-abbrev pub numbered : ℕ → ℕ → Found
+abbrev numbered : ℕ → ℕ → Found
 numbered i zero = Nobody
 numbered i (suc n) = At i (suc n)
-
-numbered-some : (i n : ℕ) → (n ≡ 0 → ⊥) → numbered i n ≡ At i n
-numbered-some i zero h = absurd (h refl)
-numbered-some i (suc n) h = refl
 
 numbered-number : (i n : ℕ) → number (numbered i n) ≡ n
 numbered-number i zero = refl
@@ -97,32 +90,3 @@ number-count test l = from-number test 0 l
 -- and nobody is told where that is zero, and only there
 pub nobody-zero : {A : Type 0} (test : A → Bool) (l : List A) → nobody (first test l) ≡ eqb (count test l) 0
 nobody-zero test l = ap nobody (from-numbered test 0 l) ∙ numbered-nobody (index (first test l)) (count test l)
-
--- A loop over a list from its end: of what is left from i on, f is the first, and n pass.
-module _ {A : Type 0} (test : A → Bool) (l : List A) (i f n : ℕ) (e : numbered f n ≡ firstFrom test i (drop i l)) where
-  rest : n ≡ count test (drop i l)
-  rest = sym (numbered-number f n) ∙ ap number e ∙ from-number test i (drop i l)
-
-  pub back-room : i ≤ length l → n + i ≤ length l
-  back-room h = omega (arith, rest, count-le test (drop i l), length-drop i l)
-
-  before : (d : A) → 0 < i → i ≤ length l → drop (i - 1) l ≡ getD l (i - 1) d ∷ drop i l
-  before d h k =
-      let q : i - 1 + 1 ≡ i = omega arith in
-      subst (λ (j : ℕ). drop (i - 1) l ≡ getD l (i - 1) d ∷ drop j l) q (drop-one l (i - 1) d (omega arith))
-
-  -- a turn of it, by what the test answered of the one before
-  pub back-here : (d : A) (b : Bool) → 0 < i → i ≤ length l → b ≡ test (getD l (i - 1) d) → T b → numbered (i - 1) (n + 1) ≡ firstFrom test (i - 1) (drop (i - 1) l)
-  back-here d true h k t p = rw (before d h k, ← t, add-one n, rest)
-  back-here d false h k t p = absurd p
-
-  pub back-more : (d : A) (b : Bool) → 0 < i → i ≤ length l → b ≡ test (getD l (i - 1) d) → T (not b) → numbered f n ≡ firstFrom test (i - 1) (drop (i - 1) l)
-  back-more d true h k t p = absurd p
-  back-more d false h k t p = let q : i - 1 + 1 ≡ i = omega arith in rw (before d h k, ← t, q) e
-
--- the end of it, by whether the number is zero
-pub numbered-none : (i n : ℕ) {R : Found} → numbered i n ≡ R → T (eqb n 0) → Nobody ≡ R
-numbered-none i n e z = ap (numbered i) (sym (eqb→eq n 0 z)) ∙ e
-
-pub numbered-told : (i n : ℕ) {R : Found} → numbered i n ≡ R → T (not (eqb n 0)) → At i n ≡ R
-numbered-told i n e z = sym (numbered-some i n (λ q. T-not (eqb n 0) z (subst (λ (k : ℕ). T (eqb k 0)) (sym q) (eqb-refl 0)))) ∙ e

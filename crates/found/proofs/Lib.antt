@@ -1,2 +1,5 @@
+pub mod Asked
+pub mod AskedCode
 pub mod First
 pub mod Part
+pub mod Scan

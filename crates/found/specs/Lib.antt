@@ -1,1 +1,2 @@
+pub mod CodeTally
 pub mod First
