@@ -1,29 +1,33 @@
--- The walk to the border ends at the nearest cell beside black: it reaches cells in the order of their least spellings. Assumes nothing.
+-- The walk to the border ends at the nearest cell beside black, and takes the cells before it: it reaches cells in the order of their least
+-- spellings. Assumes nothing.
 use mathlib.Core.Bool.{true, false, true≢false}
 use mathlib.Core.List.{List, [], _∷_, _++_}
 use mathlib.Core.Logic.{_⊎_, inl, inr, ⊎-elim}
 use mathlib.Core.Path.{_≡_, refl, sym, ap, subst, _∙_}
 use Prim.Native.Nat.{ℕ, zero, suc, _+_, _*_, _≤_, _<_}
 use native.Mathlib.Nat.{not-suc-le-zero}
+use native.Mathlib.Numerals.{add-one}
 use native.Mathlib.Omega.{arith}
 use borrow.Author.Count.{below-none, below-more}
-use borrow.Author.Tests.{eqb-true}
+use borrow.Author.Tests.{eqb-true, eq-eqb}
 use lib.Dec.{eqb}
-use lib.ListN.{length, getD, set, replicate, length-append, length-set, length-replicate, List·getD-append}
-use lib.Seq.{getD-at}
+use lib.ListN.{length, getD, set, take, replicate, length-append, length-set, length-replicate, List·getD-append}
+use lib.Seq.{getD-at, getD-take, length-take-le, take-suc}
 use Rattle.laws.specs.Lists.{tally}
 use Rattle.laws.proofs.Choice.{bool-cases, below?, or-cases}
 use Rattle.laws.proofs.Counts.{tally-le, tally-lose}
-use Rattle.laws.proofs.Lists.{getD-replicate-same}
+use Rattle.laws.proofs.Lists.{any-at, getD-replicate-same}
 use Rattle.cutter_ground.specs.Cells.{CN, leftOf, rightOf, upOf, downOf, onBorder}
 use Rattle.cutter_ground.specs.CodeVisit.{SEEN}
 use Rattle.cutter_border.specs.declared.Walked.{Walked}
 use Rattle.cutter_border.specs.Walks.{claimedCell, Beside, Way, Left, Right, Up, Down, order, onward, Spelling, still, more, steps, Walk, here, step}
-use Rattle.cutter_border.specs.Nearest.{Unreached, Nearest, goes, stays}
-use Rattle.cutter_border.specs.CodeBorder.{among, reach, reachAround, walk, toBorder}
-use Rattle.cutter_border.proofs.Spellings.{each, value, shorter-less, earlier-less, nearest-unique, nearest-here}
+use Rattle.cutter_border.specs.Nearest.{First, Unreached, Nearest, goes, stays}
+use Rattle.cutter_border.specs.Taken.{among, distinct, NoLater, Takes, none, chosen, reached}
+use Rattle.cutter_border.specs.CodeBorder.{reach, reachAround, walk, toBorder}
+use Rattle.cutter_border.proofs.Spellings.{each, value, shorter-less, earlier-less, value-same, no-later, later-value, endOf, walk-end, nearest-unique, nearest-here}
 use Rattle.cutter_border.proofs.Reaching.{claimed-in, marked, marked-none, none-marked, mark-more, reach-new, reach-old, reach-off}
 use Rattle.cutter_border.proofs.Walking as walking
+use Rattle.cutter_border.proofs.Taken.{distinct-more, distinct-take, walk-cost}
 
 -- the walk's own test says the same
 module _ (g : List ℕ) (c : ℕ) where
@@ -90,6 +94,7 @@ module _ (g : List ℕ) (a : ℕ) where
     long : length seen ≡ CN
     room : length cells + tally 0 seen ≤ CN
     marks : (c : ℕ) → among c cells ≡ marked seen c
+    once : distinct cells ≡ true
 
   -- a higher top
   raised : {cells vs seen : List ℕ} {top top′ : ℕ} → Reach cells vs seen top → top ≤ top′ → Reach cells vs seen top′
@@ -102,6 +107,7 @@ module _ (g : List ℕ) (a : ℕ) where
         long = r .long;
         room = r .room;
         marks = r .marks;
+        once = r .once;
       }
 
   -- the lists grown to cells′ and vs′, of which P holds
@@ -148,6 +154,7 @@ module _ (g : List ℕ) (a : ℕ) where
           long = length-set seen x SEEN ∙ r .long;
           room = omega (arith, many, r .room, tally-lose seen x 0 SEEN (omega (arith, r .long)) blank (λ e. omega arith));
           marks = mark-more seen cells x (omega (arith, r .long)) (r .marks);
+          once = distinct-more cells x (r .once) f;
         }
 
     added : Spelt x v → claimedCell g x ≡ true → among x cells ≡ false → Looked cells vs x v (cells ++ x ∷ [])
@@ -257,17 +264,73 @@ module _ (g : List ℕ) (a : ℕ) where
         (λ b. let e : i ≡ k = omega arith in subst (λ (m : ℕ). getD (t .vs) i 0 ≤ getD (t .vs) m 0) e (omega arith))
         (below? i k)
 
-    found : i < length cells → onBorder g (getD cells i CN) ≡ true → Nearest g a (getD cells i CN)
-    found h e =
-        let w = t .reached .spelt i h in
-        let no-less : (q : Spelling) (c : ℕ) → Walk g a q c → Beside g c → value (w .0) ≤ value q = λ q c r b.
-        let x = waits r b in omega (arith, w .2, x .3, least (x .0) (x .1) (x .2)) in
-        goes (w .0)
+    -- the i-th cell is beside black: it is the one chosen, and the cells up to it are those taken
+    module _ (h : i < length cells) (e : onBorder g (getD cells i CN) ≡ true) where
+      abbrev own : Spelling
+      own = t .reached .spelt i h .0
+
+      own-value : value own ≡ getD (t .vs) i 0
+      own-value = t .reached .spelt i h .2
+
+      found : First g a own (getD cells i CN)
+      found =
+          let w = t .reached .spelt i h in
+          let no-less : (q : Spelling) (c : ℕ) → Walk g a q c → Beside g c → value own ≤ value q = λ q c r b.
+          let x = waits r b in omega (arith, own-value, x .3, least (x .0) (x .1) (x .2)) in
+          record {
+            walk = w .1;
+            beside = border-beside g (getD cells i CN) e;
+            shortest = λ q c r b. ⊎-elim (λ l. absurd (omega (arith, shorter-less q own l, no-less q c r b))) (λ l. l) (below? (steps q) (steps own));
+            earliest = λ q c r b x. omega (arith, earlier-less x, no-less q c r b);
+          }
+
+      abbrev front : List ℕ
+      front = take (i + 1) cells
+
+      front-long : length front ≡ i + 1
+      front-long = length-take-le (i + 1) cells (omega arith)
+
+      front-at : (m : ℕ) → m ≤ i → getD front m CN ≡ getD cells m CN
+      front-at m l = getD-take (i + 1) cells m CN (omega arith)
+
+      in-front : (m c : ℕ) → m ≤ i → getD cells m CN ≡ c → among c front ≡ true
+      in-front m c l z = any-at (eqb c) front m CN (omega (arith, front-long)) (eq-eqb c (getD front m CN) (sym (front-at m l ∙ z)))
+
+      -- a walk no later than the chosen one ends in a cell taken
+      front-all : (c : ℕ) (q : Spelling) → Walk g a q c → value q ≤ value own → among c front ≡ true
+      front-all c q r v =
+          ⊎-elim
+          (λ (x : Has cells (t .vs) c (value q)).
+          ⊎-elim (λ l. absurd (omega (arith, own-value, x .3, t .reached .rising (x .0) (x .1) i l))) (λ l. in-front (x .0) c l (x .2)) (below? i (x .0)))
+          (λ (x : Waits (value q)).
+          let same : q ≡ own = value-same q own (omega (arith, own-value, x .3, least (x .0) (x .1) (x .2))) in
+          in-front i c (omega arith) (walk-end (found .walk) ∙ ap (endOf a) (sym same) ∙ sym (walk-end r)))
+          (followed r)
+
+      front-theirs : (c : ℕ) → among c front ≡ true → (q : Spelling) × Walk g a q c × NoLater q own
+      front-theirs c f =
+          let x = place-of c front f in
+          let m = x .0 in
+          let l : m ≤ i = omega (arith, x .1, front-long) in
+          let w = t .reached .spelt m (omega arith) in
+          let v : value (w .0) ≤ value own = ⊎-elim (λ b. omega (arith, w .2, own-value, t .reached .rising i h m b))
+          (λ b. let z : m ≡ i = omega arith in omega (arith, w .2, own-value, ap (λ (k : ℕ). getD (t .vs) k 0) z)) (below? m i) in
+          (w .0, subst (Walk g a (w .0)) (sym (front-at m l) ∙ x .2) (w .1), no-later (w .0) own v)
+
+      front-taken : (Beside g a → ⊥) → Takes g a front
+      front-taken n =
+          chosen own (getD cells i CN) (take i cells) n found (ap (λ (k : ℕ). take k cells) (add-one i) ∙ take-suc cells i CN h)
+          (record { theirs = front-theirs; all = λ c x. front-all c (x .0) (x .1) (later-value (x .0) own (x .2)); once = distinct-take (i + 1) cells (t .reached .once) })
+
+    -- no cell waits: all that are reached are taken
+    all-taken : length cells ≤ i → Takes g a cells
+    all-taken l =
+        reached (unreached l)
         (record {
-          walk = w .1;
-          beside = border-beside g (getD cells i CN) e;
-          shortest = λ q c r b. ⊎-elim (λ l. absurd (omega (arith, shorter-less q (w .0) l, no-less q c r b))) (λ l. l) (below? (steps q) (steps (w .0)));
-          earliest = λ q c r b x. omega (arith, earlier-less x, no-less q c r b);
+          theirs = λ c f. let x = place-of c cells f in let w = t .reached .spelt (x .0) (x .1) in (w .0, subst (Walk g a (w .0)) (x .2) (w .1));
+          all = λ c x. ⊎-elim (λ (y : Has cells (t .vs) c (value (x .0))). any-at (eqb c) cells (y .0) CN (y .1) (eq-eqb c (getD cells (y .0) CN) (sym (y .2))))
+              (λ (y : Waits (value (x .0))). absurd (omega (arith, y .1, y .2))) (followed (x .1));
+          once = t .reached .once;
         })
 
     turn : i < length cells → onBorder g (getD cells i CN) ≡ false → Taking (reachAround g cells (getD cells i CN)) (i + 1)
@@ -291,19 +354,30 @@ module _ (g : List ℕ) (a : ℕ) where
               (rw (x .front i h, x .values i h) (n .had));
         }
 
-  at-of : {w v : Walked} → w ≡ v → Nearest g a (v .at) → Nearest g a (w .at)
-  at-of e n = subst (λ (x : Walked). Nearest g a (x .at)) (sym e) n
+  -- the walk w ends at the nearest cell, and has taken so many
+  record Ended (w : Walked) : Type 0 where
+    place : Nearest g a (w .at)
+    cells : List ℕ
+    taken : (Beside g a → ⊥) → Takes g a cells
+    many : length cells ≡ w .taken
 
-  walk-nearest : (n : ℕ) (cells : List ℕ) (i : ℕ) → Taking cells i → n + i ≡ CN → Nearest g a (walk n g a cells i .at)
-  walk-nearest zero cells i t f =
-      let l : length cells ≤ i = omega (arith, t .reached .room) in at-of (walking.none g a cells i zero l) (stays (unreached t l) refl)
-  walk-nearest (suc n) cells i t f =
+  ended-at : {w v : Walked} → w ≡ v → Ended v → Ended w
+  ended-at e n = subst Ended (sym e) n
+
+  ended-none : {cells : List ℕ} {i : ℕ} → Taking cells i → length cells ≤ i → Ended (record { at = a; taken = i })
+  ended-none {cells} t l = record { place = stays (unreached t l) refl; cells = cells; taken = λ n. all-taken t l; many = omega (arith, t .before) }
+
+  walk-ends : (n : ℕ) (cells : List ℕ) (i : ℕ) → Taking cells i → n + i ≡ CN → Ended (walk n g a cells i)
+  walk-ends zero cells i t f =
+      let l : length cells ≤ i = omega (arith, t .reached .room) in ended-at (walking.none g a cells i zero l) (ended-none t l)
+  walk-ends (suc n) cells i t f =
       ⊎-elim
       (λ h. ⊎-elim
-      (λ e. at-of (walking.ends g a cells i n h e) (found t h e))
-      (λ e. at-of (walking.goes g a cells i n h e) (walk-nearest n (reachAround g cells (getD cells i CN)) (i + 1) (turn t h e) (omega arith)))
+      (λ e. ended-at (walking.ends g a cells i n h e)
+      (record { place = goes (own t h e) (found t h e); cells = front t h e; taken = front-taken t h e; many = front-long t h e }))
+      (λ e. ended-at (walking.goes g a cells i n h e) (walk-ends n (reachAround g cells (getD cells i CN)) (i + 1) (turn t h e) (omega arith)))
       (bool-cases (onBorder g (getD cells i CN))))
-      (λ l. at-of (walking.none g a cells i (suc n) l) (stays (unreached t l) refl))
+      (λ l. ended-at (walking.none g a cells i (suc n) l) (ended-none t l))
       (below? i (length cells))
 
   -- the start, by the empty walk
@@ -324,6 +398,7 @@ module _ (g : List ℕ) (a : ℕ) where
           long = length-set cleared a SEEN ∙ all;
           room = omega (arith, tally-le 0 cleared, all, tally-lose cleared a 0 SEEN (omega (arith, all)) (getD-replicate-same CN a 0) (λ e. omega arith));
           marks = mark-more cleared [] a (omega (arith, all)) (λ j. sym (marked-none cleared j (getD-replicate-same CN j 0)));
+          once = refl;
         };
         next = λ l. omega arith;
         start = (0, omega arith, refl, omega arith);
@@ -332,16 +407,40 @@ module _ (g : List ℕ) (a : ℕ) where
         done = λ k l. absurd (not-suc-le-zero l);
       }
 
-  pub border-nearest : a < CN → Nearest g a (toBorder g a .at)
-  border-nearest h =
-      ⊎-elim (λ e. at-of (walking.stays g a e) (nearest-here (border-beside g a e)))
-      (λ e. at-of (walking.walks g a e) (walk-nearest CN (a ∷ []) 0 (starting h) (omega arith)))
+  -- where the player has to go, and what was taken on the way
+  record Bordered (w : Walked) : Type 0 where
+    place : Nearest g a (w .at)
+    cells : List ℕ
+    taken : Takes g a cells
+    many : length cells ≡ w .taken
+
+  bordered-at : {w v : Walked} → w ≡ v → Bordered v → Bordered w
+  bordered-at e n = subst Bordered (sym e) n
+
+  border-ends : a < CN → Bordered (toBorder g a)
+  border-ends h =
+      ⊎-elim
+      (λ e. bordered-at (walking.stays g a e)
+      (record { place = nearest-here (border-beside g a e); cells = []; taken = none (border-beside g a e) refl; many = refl }))
+      (λ e. let w = walk-ends CN (a ∷ []) 0 (starting h) (omega arith) in
+      bordered-at (walking.walks g a e) (record { place = w .place; cells = w .cells; taken = w .taken (inland-not g a e); many = w .many }))
       (bool-cases (onBorder g a))
 
 -- The place to which the player at a goes. Its type is all there is to believe: from a cell of the grid there is just one (`nearest-unique`).
 pub nearest : (g : List ℕ) (a : ℕ) → (b : ℕ) × (a < CN → Nearest g a b)
-nearest g a = (toBorder g a .at, border-nearest g a)
+nearest g a = (toBorder g a .at, λ h. border-ends g a h .place)
 
 -- which is where the walk ends
 pub walk-at : (g : List ℕ) (a : ℕ) → a < CN → toBorder g a .at ≡ nearest g a .0
-walk-at g a h = nearest-unique (border-nearest g a h) (nearest g a .1 h)
+walk-at g a h = nearest-unique (border-ends g a h .place) (nearest g a .1 h)
+
+-- The cells that the walk from a takes. Its type is all there is to believe: from a cell of the grid their number is just one (`walk-cost`).
+pub taken : (g : List ℕ) (a : ℕ) → (cells : List ℕ) × (a < CN → Takes g a cells)
+taken g a = ⊎-elim (λ h. (border-ends g a h .cells, λ _. border-ends g a h .taken)) (λ l. ([], λ h. absurd (omega arith))) (below? a CN)
+
+-- which are as many as the walk counts
+pub walk-took : (g : List ℕ) (a : ℕ) → a < CN → toBorder g a .taken ≡ length (taken g a .0)
+walk-took g a h = sym (border-ends g a h .many) ∙ walk-cost .only g a _ _ h (border-ends g a h .taken) (taken g a .1 h)
+
+pub took-most : (g : List ℕ) (a : ℕ) → a < CN → length (taken g a .0) ≤ CN
+took-most g a h = walk-cost .most g a _ h (taken g a .1 h)

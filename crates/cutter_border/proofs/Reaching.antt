@@ -1,8 +1,8 @@
 -- A visit of the code is a cell reached: the queue's front is the list of cells reached, and the marks tell which are in it. Assumes nothing.
-use mathlib.Core.Bool.{Bool, true, false, not, or-true, or-false, and-false}
+use mathlib.Core.Bool.{Bool, true, false, not, and-false, _||_}
 use mathlib.Core.List.{List, [], _∷_, _++_}
 use mathlib.Core.Logic.{inl, inr, ⊎-elim}
-use mathlib.Core.Path.{_≡_, sym, ap, ap₂, subst, _∙_}
+use mathlib.Core.Path.{_≡_, refl, sym, ap, ap₂, subst, _∙_}
 use Prim.Native.Nat.{ℕ, _+_, _<_}
 use native.Mathlib.Numerals.{add-one}
 use native.Mathlib.Omega.{arith}
@@ -16,7 +16,8 @@ use Rattle.cutter_ground.specs.Cells.{CN, CB-FILLED, cellAt, rightOf, upOf, dow
 use Rattle.cutter_ground.specs.CodeVisit.{SEEN, Holds, Room, Visited, Around}
 use Rattle.cutter_ground.proofs.Visits.{holds-in, room-kept}
 use Rattle.cutter_border.specs.Walks.{claimedCell}
-use Rattle.cutter_border.specs.CodeBorder.{among, reach, reachAround}
+use Rattle.cutter_border.specs.Taken.{among}
+use Rattle.cutter_border.specs.CodeBorder.{reach, reachAround}
 
 -- what a claimed cell is
 module _ (g : List ℕ) (c : ℕ) where
@@ -71,14 +72,23 @@ pub record Reached (g seen q : List ℕ) (t : ℕ) : Type 0 where
   pub marks : (c : ℕ) → among c (take t q) ≡ marked seen c
 
 -- one cell more is marked
-pub mark-more : (seen cells : List ℕ) (at : ℕ) → at < length seen → ((c : ℕ) → among c cells ≡ marked seen c) → (c : ℕ) → among c (cells ++ at ∷ []) ≡ marked (set seen at SEEN) c
-mark-more seen cells at h m c =
-    any-append (eqb c) cells (at ∷ [])
-    ∙ ⊎-elim
-    (λ (e : c ≡ at). rw (eq-eqb c at e, or-true)
-    (sym (ap (λ (n : ℕ). not (eqb n 0)) (subst (λ (n : ℕ). getD (set seen at SEEN) n 0 ≡ SEEN) (sym e) (getD-set-same seen at SEEN 0 h)))))
-    (λ (n : c ≡ at → ⊥). rw (ne-eqb c at n, or-false) (m c ∙ sym (ap (λ (n : ℕ). not (eqb n 0)) (getD-set-other seen at c SEEN 0 n))))
-    (same? c at)
+module _ (seen cells : List ℕ) (at : ℕ) (h : at < length seen) (m : (c : ℕ) → among c cells ≡ marked seen c) where
+  pub mark-first : (c : ℕ) → among c (at ∷ cells) ≡ marked (set seen at SEEN) c
+  mark-first c =
+      ⊎-elim
+      (λ (e : c ≡ at). rw (eq-eqb c at e)
+      (sym (ap (λ (n : ℕ). not (eqb n 0)) (subst (λ (n : ℕ). getD (set seen at SEEN) n 0 ≡ SEEN) (sym e) (getD-set-same seen at SEEN 0 h)))))
+      (λ (n : c ≡ at → ⊥). rw (ne-eqb c at n) (m c ∙ sym (ap (λ (n : ℕ). not (eqb n 0)) (getD-set-other seen at c SEEN 0 n))))
+      (same? c at)
+
+  pub mark-more : (c : ℕ) → among c (cells ++ at ∷ []) ≡ marked (set seen at SEEN) c
+  mark-more c = any-append (eqb c) cells (at ∷ []) ∙ last-first (among c cells) (eqb c at) ∙ mark-first c
+    where
+      last-first : (a b : Bool) → (a || (b || false)) ≡ (b || a)
+      last-first true true = refl
+      last-first true false = refl
+      last-first false true = refl
+      last-first false false = refl
 
 -- the tables after some visits, where the definition has reached these cells
 pub record Steps (g cells : List ℕ) (seen′ q′ : List ℕ) (t′ : ℕ) : Type 0 where

@@ -8,6 +8,7 @@ use native.Mathlib.Omega.{arith}
 use Rattle.laws.proofs.Choice.{below?}
 use Rattle.cutter_border.specs.Walks.{claimedCell, Beside, Way, Left, Right, Up, Down, order, onward, Spelling, still, more, steps, Earlier, differ, before, Walk, here, step}
 use Rattle.cutter_border.specs.Nearest.{First, Unreached, Nearest, goes, stays}
+use Rattle.cutter_border.specs.Taken.{NoLater}
 
 -- what holds of the four steps holds of each
 pub each : (P : Way → Type 0) → P Left → P Right → P Up → P Down → (w : Way) → P w
@@ -69,22 +70,44 @@ compare (more p v) still e = absurd (omega arith)
 compare (more p v) (more q w) e =
     ⊎-elim (λ l. inl (before l)) (⊎-elim (compare-last p q v w) (λ l. inr (inr (before l)))) (compare p q (omega arith))
 
+-- a value is one spelling's
+pub value-same : (p q : Spelling) → value p ≡ value q → p ≡ q
+value-same p q e =
+    ⊎-elim (λ l. absurd (omega (arith, shorter-less p q l)))
+    (λ l. ⊎-elim (λ m. absurd (omega (arith, shorter-less q p m)))
+    (λ m. ⊎-elim (λ x. absurd (omega (arith, earlier-less x))) (⊎-elim (λ z. z) (λ x. absurd (omega (arith, earlier-less x)))) (compare p q (omega arith)))
+    (below? (steps q) (steps p)))
+    (below? (steps p) (steps q))
+
+-- no later is a value of at most the other's
+pub no-later : (q p : Spelling) → value q ≤ value p → NoLater q p
+no-later q p h =
+    ⊎-elim inl (λ l. inr (⊎-elim (λ m. absurd (omega (arith, shorter-less p q m))) (λ m. omega arith) (below? (steps p) (steps q)), λ x. omega (arith, earlier-less x)))
+    (below? (steps q) (steps p))
+
+pub later-value : (q p : Spelling) → NoLater q p → value q ≤ value p
+later-value q p (inl h) = omega (arith, shorter-less q p h)
+later-value q p (inr h) =
+    ⊎-elim (λ x. omega (arith, earlier-less x)) (⊎-elim (λ z. omega (arith, ap value z)) (λ x. absurd (h .1 x))) (compare q p (h .0))
+
 -- where the steps lead
-abbrev endOf : ℕ → Spelling → ℕ
+abbrev pub endOf : ℕ → Spelling → ℕ
 endOf a still = a
 endOf a (more p w) = onward w (endOf a p)
 
 module _ {g : List ℕ} {a : ℕ} where
-  walk-end : {p : Spelling} {b : ℕ} → Walk g a p b → b ≡ endOf a p
+  pub walk-end : {p : Spelling} {b : ℕ} → Walk g a p b → b ≡ endOf a p
   walk-end here = refl
   walk-end (step w r k) = ap (onward w) (walk-end r)
 
-  first-unique : {p q : Spelling} {b c : ℕ} → First g a p b → First g a q c → b ≡ c
-  first-unique {p} {q} {b} {c} f h =
+  -- the first is spelt in one way
+  pub first-spelt : {p q : Spelling} {b c : ℕ} → First g a p b → First g a q c → p ≡ q
+  first-spelt {p} {q} {b} {c} f h =
       let e : steps p ≡ steps q = omega (arith, f .shortest q c (h .walk) (h .beside), h .shortest p b (f .walk) (f .beside)) in
-      ⊎-elim (λ l. absurd (h .earliest p b (f .walk) (f .beside) l))
-      (⊎-elim (λ z. walk-end (f .walk) ∙ ap (endOf a) z ∙ sym (walk-end (h .walk))) (λ l. absurd (f .earliest q c (h .walk) (h .beside) l)))
-      (compare p q e)
+      ⊎-elim (λ l. absurd (h .earliest p b (f .walk) (f .beside) l)) (⊎-elim (λ z. z) (λ l. absurd (f .earliest q c (h .walk) (h .beside) l))) (compare p q e)
+
+  first-unique : {p q : Spelling} {b c : ℕ} → First g a p b → First g a q c → b ≡ c
+  first-unique f h = walk-end (f .walk) ∙ ap (endOf a) (first-spelt f h) ∙ sym (walk-end (h .walk))
 
   -- there is only one such place
   pub nearest-unique : {b c : ℕ} → Nearest g a b → Nearest g a c → b ≡ c
@@ -104,7 +127,7 @@ module _ {g : List ℕ} {a : ℕ} where
   pub nearest-unreached : {b : ℕ} → Unreached g a → Nearest g a b → b ≡ a
   nearest-unreached u n = nearest-unique n (stays u refl)
 
-  walk-claimed : claimedCell g a ≡ true → {p : Spelling} {b : ℕ} → Walk g a p b → claimedCell g b ≡ true
+  pub walk-claimed : claimedCell g a ≡ true → {p : Spelling} {b : ℕ} → Walk g a p b → claimedCell g b ≡ true
   walk-claimed s here = s
   walk-claimed s (step w r k) = k
 

@@ -14,7 +14,8 @@ use Rattle.laws.proofs.Lists.{getD-default, getD-replicate-same, any-at}
 use Rattle.laws.proofs.Choice.{below?}
 use Rattle.cutter_ground.specs.Cells.{CN, CB-FILLED, onBorder}
 use Rattle.cutter_ground.specs.CodeVisit.{SEEN, Around}
-use Rattle.cutter_border.specs.CodeBorder.{among, reachAround, walk, toBorder}
+use Rattle.cutter_border.specs.Taken.{among}
+use Rattle.cutter_border.specs.CodeBorder.{reachAround, walk, toBorder}
 use Rattle.cutter_border.specs.CodeTables.{Cleared}
 use Rattle.cutter_border.proofs.Reaching.{marked, marked-none, Reached, mark-more, around-reaches}
 

@@ -2,16 +2,12 @@
 use mathlib.Core.Bool.{Bool, true, false, cond, _&&_, not}
 use mathlib.Core.List.{List, [], _∷_, _++_}
 use Prim.Native.Nat.{ℕ, zero, suc, _+_}
-use lib.Dec.{eqb, ltb}
+use lib.Dec.{ltb}
 use lib.ListN.{length, getD}
-use Rattle.laws.specs.Lists.{any}
 use Rattle.cutter_ground.specs.Cells.{CN, leftOf, rightOf, upOf, downOf, onBorder}
 use Rattle.cutter_border.specs.declared.Walked.{Walked}
 use Rattle.cutter_border.specs.Walks.{claimedCell}
-
--- c is one of the cells
-abbrev pub among : ℕ → List ℕ → Bool
-among c cells = any (eqb c) cells
+use Rattle.cutter_border.specs.Taken.{among}
 
 -- a claimed cell not yet reached is reached: it stands behind those reached before
 unfoldable pub reach : List ℕ → List ℕ → ℕ → List ℕ
