@@ -1,33 +1,34 @@
 -- The steps together are the closing. Assumes nothing.
 use mathlib.Core.Path.{_≡_, refl, sym, ap, subst, _∙_}
 use mathlib.Core.Bool.{Bool, true, false, not, cond, _&&_}
-use mathlib.Core.List.{List, map, zipWith}
+use mathlib.Core.List.{List, zipWith}
 use mathlib.Core.Logic.{⊎-elim}
 use Prim.Native.Nat.{ℕ, _+_, _-_, _≤_, _<_}
 use native.Mathlib.Omega.{arith}
 use borrow.Author.Tests.{eq-eqb, ne-eqb, lt-ltb, le-ltb}
 use lib.Dec.{eqb}
-use lib.ListN.{length, getD, List·getD-eq-default, length-map, List·getD-map}
+use lib.ListN.{length, getD, List·getD-eq-default}
 use lib.Seq.{ext-getD}
 use Rattle.laws.specs.Lists.{any, bit, count, filter, tally}
 use Rattle.laws.proofs.Choice.{same?, below?}
-use Rattle.laws.proofs.Counts.{count-same, count-plus, count-mono, count-map}
+use Rattle.laws.proofs.Counts.{count-le, count-same, count-plus}
 use Rattle.laws.proofs.Filter.{filter-ext, all-true}
 use Rattle.laws.proofs.Zip.{length-zipWith, getD-zipWith}
-use Rattle.cutter_ground.specs.Cells.{CN, CB-BLACK, CB-FILLED}
+use Rattle.cutter_ground.specs.Cells.{CN, CB-FILLED}
 use Rattle.cutter_ground.specs.CodeVisit.{SEEN}
 use Rattle.cutter_ground.specs.declared.Mover.{Mover}
 use Rattle.cutter_joined.specs.Joined.{Right}
-use Rattle.cutter_joined.proofs.Joined.{right-le, right-black, black?}
+use Rattle.cutter_joined.proofs.Joined.{right-le, black?}
 use Rattle.cutter_joined.proofs.Labels.{labels}
 use Rattle.cutter_closing.specs.Counted.{counted, cellsIn}
 use Rattle.cutter_closing.specs.Closing.{claimLine, regionOf, kept, isTaken, claim, remaining, closed, closeCut}
 use Rattle.cutter_closing.proofs.Labels.{length-claimLine}
-use Rattle.cutter_closing.proofs.Roots.{counted-below}
 use Rattle.cutter_closing.specs.Account.{takenIn}
+use Rattle.cutter_closing.specs.Cost.{searchedIn, searchedOf}
 use Rattle.cutter_closing.specs.declared.Cut.{Cut}
 use Rattle.cutter_capture.specs.declared.Herd.{Herd}
-use Rattle.cutter_capture.specs.CodeSteps.{KEPT, markOf, keepOf, shut, Retained, Closes}
+use Rattle.cutter_capture.specs.declared.Closed.{Closed}
+use Rattle.cutter_capture.specs.CodeSteps.{KEPT, markOf, keepOf, shut, Retained, Closes, ClosedBy, CutClosed}
 use Rattle.cutter_capture.specs.CodeChoosing.{Nothing, Keeps, ChosenBy, Markable, Marked}
 use Rattle.cutter_ground.specs.Movers.{placeOf}
 
@@ -89,24 +90,9 @@ module _ {g L : List ℕ} (R : Right g L) {limit : ℕ} {es : List Mover} {seen 
           (λ l. eqb l (kept limit L es)) (λ l. bits l (kept limit L es) (x .among)) L in
           omega (arith, e, x .size)
 
-  -- only black cells are taken from the queue
-  marked-black : (c : ℕ) → eqb (getD seen c 0) SEEN ≡ true → eqb (getD (map (λ x. bit (eqb x CB-BLACK)) g) c 0) SEEN ≡ true
-  marked-black c t =
-      let a : any (eqb (getD L c CN)) (counted limit L) ≡ true = sym (ap (λ (x : ℕ). eqb x SEEN) (h .marks c) ∙ bit-seen (any (eqb (getD L c CN)) (counted limit L))) ∙ t in
-      let k = right-black R c (omega (arith, R .len, counted-below limit L (getD L c CN) a)) in
-      ap (λ (x : ℕ). eqb x SEEN) (List·getD-map (λ x. bit (eqb x CB-BLACK)) g c CB-FILLED ∙ ap (λ (x : ℕ). bit (eqb x CB-BLACK)) k)
-
-  pub taken-le : length g ≡ CN → taken ≤ tally CB-BLACK g
-  unfolding tally
-  taken-le lg =
-      let p : ℕ → ℕ = λ x. bit (eqb x CB-BLACK) in
-      let f : ℕ → Bool = λ x. eqb x SEEN in
-      let i = count-same f (λ l. any (eqb l) (counted limit L)) seen L 0 CN (h .len ∙ sym (R .len))
-      (λ c i. ap f (h .marks c) ∙ bit-seen (any (eqb (getD L c CN)) (counted limit L))) in
-      let ii = count-mono f seen (map p g) 0 (h .len ∙ sym (length-map g p ∙ lg)) (λ c i. marked-black c) in
-      let iii = count-map f p g in
-      let iv = count-same (λ x. f (p x)) (λ x. eqb x CB-BLACK) g g 0 0 refl (λ c i. bit-seen (eqb (getD g c 0) CB-BLACK)) in
-      omega (arith, h .account, i, ii, iii, iv)
+  -- which are no more than the cells
+  pub taken-le : taken ≤ CN
+  taken-le = omega (arith, h .account, count-le (λ l. any (eqb l) (counted limit L)) L, R .len)
 
   module _ {seen′ : List ℕ} (m : Marked seen q a b seen′) where
     nowhere : Nothing limit L es a b → (c : ℕ) → getD seen′ c 0 ≡ 0
@@ -173,6 +159,7 @@ module _ (g : List ℕ) {h : List ℕ} (e : h ≡ claimLine g) where
   pub line-closes : {enemies : List Mover} {count limit : ℕ} → Closes g enemies count limit → Closes h enemies count limit
   line-closes c = record { cells = ap length e ∙ length-claimLine g ∙ c .cells; closable = c .closable; some = c .some }
 
-  pub closed-line : (limit : ℕ) (es : List Mover) → closed limit h (labels h .0) es ≡ closeCut limit g es
-  unfolding closeCut
-  closed-line limit es = ap (λ (x : List ℕ). closed limit x (labels x .0) es) e
+  pub closed-line : {limit : ℕ} {es : List Mover} {g′ : List ℕ} {r : Closed} → ClosedBy (labels h .0) limit h es g′ r → CutClosed limit g es g′ r
+  unfolding closeCut searchedOf
+  closed-line {limit} {es} c =
+      record { cut = c .cut ∙ ap (λ (x : List ℕ). closed limit x (labels x .0) es) e; cost = c .cost ∙ ap (λ (x : List ℕ). searchedIn limit (labels x .0)) e }

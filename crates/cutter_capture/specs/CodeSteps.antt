@@ -10,6 +10,9 @@ use Rattle.cutter_ground.specs.Cells.{CN, CB-FILLED}
 use Rattle.cutter_ground.specs.CodeVisit.{SEEN}
 use Rattle.cutter_ground.specs.declared.Mover.{Mover}
 use Rattle.cutter_closing.specs.declared.Cut.{Cut}
+use Rattle.cutter_closing.specs.Closing.{closed, closeCut}
+use Rattle.cutter_closing.specs.Cost.{searchedIn, searchedOf}
+use Rattle.cutter_capture.specs.declared.Closed.{Closed}
 use Rattle.cutter_capture.specs.declared.Herd.{Herd}
 use Rattle.cutter_capture.specs.declared.Lead.{Lead}
 use Rattle.cutter_ground.specs.Movers.{MAX-ENEMIES, placeOf, slots}
@@ -65,5 +68,15 @@ pub record Closes (g : List ℕ) (enemies : List Mover) (count limit : ℕ) : Ty
   pub some : 0 < limit
 
 -- the ground afterwards and those that remain, together
-abbrev pub cutOf : List ℕ → Herd → Cut
+abbrev pub cutOf : List ℕ → Closed → Cut
 cutOf g r = record { grid = g; enemies = r .enemies; count = r .count }
+
+-- the ground g closed by its labelling L, and afterwards g′
+pub record ClosedBy (L : List ℕ) (limit : ℕ) (g : List ℕ) (es : List Mover) (g′ : List ℕ) (r : Closed) : Type 0 where
+  pub cut : cutOf g′ r ≡ closed limit g L es
+  pub cost : r .searched ≡ searchedIn limit L
+
+-- the whole closing, its line claimed first
+pub record CutClosed (limit : ℕ) (g : List ℕ) (es : List Mover) (g′ : List ℕ) (r : Closed) : Type 0 where
+  pub cut : cutOf g′ r ≡ closeCut limit g es
+  pub cost : r .searched ≡ searchedOf limit g

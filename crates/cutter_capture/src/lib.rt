@@ -11,8 +11,8 @@ ghost use lib.ListN.{length, take};
 ghost use Rattle.cutter_ground.specs.Cells.{CN};
 ghost use Rattle.cutter_ground.specs.CodeVisit.{SEEN};
 ghost use Rattle.cutter_joined.proofs.Labels.{labels};
-ghost use Rattle.cutter_closing.specs.Closing.{claimLine, lineClaimed, closed, closeCut};
-ghost use Rattle.cutter_capture.specs.CodeSteps.{KEPT, Closable, having, more, leader, Ordered, keepOf, shut, Retained, Closes, cutOf};
+ghost use Rattle.cutter_closing.specs.Closing.{claimLine, lineClaimed};
+ghost use Rattle.cutter_capture.specs.CodeSteps.{KEPT, Closable, having, more, leader, Ordered, keepOf, shut, Retained, Closes, ClosedBy, CutClosed};
 ghost use Rattle.cutter_capture.specs.CodeChoosing.{Numbered, Choosable, Chosen, Markable, Marked};
 
 // Most regions one cut counts; extra ones stay black.
@@ -36,9 +36,16 @@ struct Choice {
 }
 
 // The creatures that remain, with zeros behind them.
-pub struct Herd {
+struct Herd {
+    enemies: [Mover; MAX_ENEMIES],
+    count: usize,
+}
+
+// The same, and how many cells the search took.
+pub struct Closed {
     pub enemies: [Mover; MAX_ENEMIES],
     pub count: usize,
+    pub searched: u16,
 }
 
 fn off_line(cell: u8) -> u8
@@ -215,16 +222,16 @@ fn retain(seen: &[u8; CN], enemies: [Mover; MAX_ENEMIES], count: usize, keep: u8
     }
 }
 
-// Closes the regions of a ground without a line, found by their numbers where nums has any; the creatures that remain.
+// Closes the regions of a ground without a line, found by their numbers where nums has any.
 fn close_regions(
     grid: &mut [u8; CN],
     nums: &[u16],
     enemies: [Mover; MAX_ENEMIES],
     count: usize,
     limit: u16,
-) -> Herd
+) -> Closed
     requires { ⌜ Closes (now grid) enemies count limit × Numbered (now grid) (now nums) ⌝ }
-    ensures { λ r. ⌜ cutOf (now (grid .exit)) r ≡ closed limit (now (grid .entry)) (labels (now (grid .entry)) .0) (take count enemies) ⌝ }
+    ensures { λ r. ⌜ ClosedBy (labels (now (grid .entry)) .0) limit (now (grid .entry)) (take count enemies) (now (grid .exit)) r ⌝ }
 {
     let mut seen = [0u8; CN];
     let mut queue = [0u16; CN];
@@ -232,18 +239,24 @@ fn close_regions(
     mark(&mut seen, &queue, best.from, best.to);
     claim_rest(grid, &seen);
     let keep = keep_of(best.from, best.to);
-    retain(&seen, enemies, count, keep)
+    let herd = retain(&seen, enemies, count, keep);
+    let left = herd.enemies;
+    Closed {
+        enemies: left,
+        count: herd.count,
+        searched: best.taken as u16,
+    }
 }
 
-// Closes a finished trail on the lent ground; the creatures that remain.
+// Closes a finished trail on the lent ground; the creatures that remain, and the cost.
 pub fn close_cut(
     grid: &mut [u8; CN],
     enemies: [Mover; MAX_ENEMIES],
     count: usize,
     limit: u16,
-) -> Herd
+) -> Closed
     requires { ⌜ Closes (now grid) enemies count limit ⌝ }
-    ensures { λ r. ⌜ cutOf (now (grid .exit)) r ≡ closeCut limit (now (grid .entry)) (take count enemies) ⌝ }
+    ensures { λ r. ⌜ CutClosed limit (now (grid .entry)) (take count enemies) (now (grid .exit)) r ⌝ }
 {
     claim_line(grid);
     close_regions(grid, &[], enemies, count, limit)
@@ -255,9 +268,9 @@ pub fn close_by_sweeps(
     enemies: [Mover; MAX_ENEMIES],
     count: usize,
     limit: u16,
-) -> Herd
+) -> Closed
     requires { ⌜ Closes (now grid) enemies count limit ⌝ }
-    ensures { λ r. ⌜ cutOf (now (grid .exit)) r ≡ closeCut limit (now (grid .entry)) (take count enemies) ⌝ }
+    ensures { λ r. ⌜ CutClosed limit (now (grid .entry)) (take count enemies) (now (grid .exit)) r ⌝ }
 {
     claim_line(grid);
     let mut nums = [0u16; CN];

@@ -54,7 +54,7 @@ above-over a b c d e f (inr p) (inr q) = let z = p .0 in let y = q .0 in let x =
 self : (e k : ℕ) → Under e k e k
 self e k = inr (refl, omega arith)
 
-abbrev Rising : ℕ → List ℕ → Type 0
+abbrev pub Rising : ℕ → List ℕ → Type 0
 Rising c [] = Unit {0}
 Rising c (x ∷ xs) = (c ≤ x) × Rising (suc x) xs
 
@@ -107,7 +107,7 @@ rising-weaken : (c d : ℕ) (l : List ℕ) → c ≤ d → Rising d l → Rising
 rising-weaken c d [] h a = tt
 rising-weaken c d (x ∷ xs) h a = (let z = a .0 in omega arith, a .1)
 
-roots-rising : (limit c : ℕ) (ls : List ℕ) → Rising c (take limit (rootsFrom c ls))
+pub roots-rising : (limit c : ℕ) (ls : List ℕ) → Rising c (take limit (rootsFrom c ls))
 roots-rising zero c ls = tt
 roots-rising (suc m) c [] = rw (roots-none c) tt
 roots-rising (suc m) c (l ∷ ls) =

@@ -38,7 +38,7 @@ line-none : (x : ℕ) → eqb (lineClaimed x) CB-TRAIL ≡ false
 line-none x = ⊎-elim (λ e. rw (eq-eqb x CB-TRAIL e)) (λ n. rw (ne-eqb x CB-TRAIL n) (ne-eqb x CB-TRAIL n)) (same? x CB-TRAIL)
 
 module _ (g : List ℕ) where
-  black-line : tally CB-BLACK (claimLine g) ≡ tally CB-BLACK g
+  pub black-line : tally CB-BLACK (claimLine g) ≡ tally CB-BLACK g
   unfolding tally
   black-line = count-map (λ x. eqb x CB-BLACK) lineClaimed g ∙ count-ext (λ x. eqb (lineClaimed x) CB-BLACK) (λ x. eqb x CB-BLACK) (λ _. true) (λ x _. line-black x) g (all-true g)
 
@@ -95,10 +95,10 @@ not-taken false = refl
 -- ---- the closing
 
 module _ (limit : ℕ) (g : List ℕ) (es : List Mover) (len : length g ≡ CN) where
-  line-length : length (claimLine g) ≡ CN
+  pub line-length : length (claimLine g) ≡ CN
   line-length = length-claimLine g ∙ len
 
-  right : Right (claimLine g) (labels (claimLine g) .0)
+  pub right : Right (claimLine g) (labels (claimLine g) .0)
   right = labels (claimLine g) .1 line-length
 
   -- claimed after = claimed before + line + taken

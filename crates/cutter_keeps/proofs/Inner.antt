@@ -32,7 +32,7 @@ black-most c w =
     let l : length (c .grid) ≡ length freshGrid = w .cells ∙ sym (ground .cells) in
     let black : (i : ℕ) → i < length (c .grid) → blackAt (c .grid) i ≡ true → blackAt freshGrid i ≡ true =
     λ i h e. let b = eqb-true (cellAt (c .grid) i) CB-BLACK e in eq-eqb (cellAt freshGrid i) CB-BLACK (unclaimed c w i (omega (arith, w .cells)) (λ f. omega (arith, f, b))) in
-    omega (arith, count-mono (λ x. eqb x CB-BLACK) (c .grid) freshGrid CB-FILLED l black, ground .black)
+    omega (arith, count-mono (λ x. eqb x CB-BLACK) (λ x. eqb x CB-BLACK) (c .grid) freshGrid CB-FILLED CB-FILLED l black, ground .black)
 
 -- and the ring at least is claimed
 pub claimed-least : (c : Cutter) → WellFormed c → RING ≤ claimedIn c
@@ -44,4 +44,4 @@ claimed-least c w =
     (λ f. let b = unclaimed c w i (omega (arith, ground .cells)) (eqb-false (cellAt (c .grid) i) CB-FILLED f) in
     absurd (omega (arith, b, eqb-true (cellAt freshGrid i) CB-FILLED e)))
     (bool-cases (claimedAt (c .grid) i)) in
-    omega (arith, count-mono (λ x. eqb x CB-FILLED) freshGrid (c .grid) CB-FILLED l filled, ground .claimed)
+    omega (arith, count-mono (λ x. eqb x CB-FILLED) (λ x. eqb x CB-FILLED) freshGrid (c .grid) CB-FILLED CB-FILLED l filled, ground .claimed)

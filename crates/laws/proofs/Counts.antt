@@ -140,11 +140,12 @@ count-plus f g h s [] = omega arith
 count-plus f g h s (x ∷ l) = omega (arith, s x, count-plus f g h s l, one-less (f x) (count f l), one-less (g x) (count g l), one-less (h x) (count h l))
 
 -- a test that passes only where another does counts no more
-pub count-mono : {A : Type 0} (f : A → Bool) (l m : List A) (d : A) → length l ≡ length m → ((i : ℕ) → i < length l → f (getD l i d) ≡ true → f (getD m i d) ≡ true)
-    → count f l ≤ count f m
-count-mono f [] m d h s = omega arith
-count-mono f (x ∷ l) [] d h s = absurd (omega arith)
-count-mono f (x ∷ l) (y ∷ m) d h s = more (f x) (f y) (count f l) (count f m) (s 0 (omega arith)) (count-mono f l m d (omega arith) (λ i k. s (suc i) (omega arith)))
+pub count-mono : {A B : Type 0} (f : A → Bool) (g : B → Bool) (l : List A) (m : List B) (d : A) (e : B) → length l ≡ length m
+    → ((i : ℕ) → i < length l → f (getD l i d) ≡ true → g (getD m i e) ≡ true) → count f l ≤ count g m
+count-mono f g [] m d e h s = omega arith
+count-mono f g (x ∷ l) [] d e h s = absurd (omega arith)
+count-mono f g (x ∷ l) (y ∷ m) d e h s =
+    more (f x) (g y) (count f l) (count g m) (s 0 (omega arith)) (count-mono f g l m d e (omega arith) (λ i k. s (suc i) (omega arith)))
   where
     more : (a b : Bool) (j k : ℕ) → (a ≡ true → b ≡ true) → j ≤ k → cond a (suc j) j ≤ cond b (suc k) k
     more true true j k e h = omega arith

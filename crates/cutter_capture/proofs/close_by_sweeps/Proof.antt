@@ -1,7 +1,7 @@
 use borrow.Author.Needs.{needs}
-use mathlib.Core.Path.{sym, _∙_}
+use mathlib.Core.Path.{sym}
 use Prim.Native.Nat.{ℕ}
-use lib.ListN.{take, length-replicate}
+use lib.ListN.{length-replicate}
 use Rattle.cutter_ground.specs.Cells.{CN}
 use Rattle.cutter_sweeps.proofs.Low.{settled-right, settled-labels}
 use Rattle.cutter_capture.proofs.Whole.{line-closes, closed-line}
@@ -26,10 +26,7 @@ close-regions-requires c κs =
     (l, λ _. settled-labels (l .cells) (s .settle .ensures))
 
 returns : tie.Need-returns
-returns c =
-    let a = c .before .before .before .before .before .before in
-    let s = a .before .before .args in
-    c .close-regions .ensures ∙ closed-line _ (a .claim-line .ensures) (s .limit) (take (s .count) (s .enemies))
+returns c = closed-line _ (c .before .before .before .before .before .before .claim-line .ensures) (c .close-regions .ensures)
 
 pub close-by-sweeps-spec : {M : Type 1} → statement M
 close-by-sweeps-spec =
