@@ -442,5 +442,5 @@ taken g a = ⊎-elim (λ h. (border-ends g a h .cells, λ _. border-ends g a h .
 pub walk-took : (g : List ℕ) (a : ℕ) → a < CN → toBorder g a .taken ≡ length (taken g a .0)
 walk-took g a h = sym (border-ends g a h .many) ∙ walk-cost .only g a _ _ h (border-ends g a h .taken) (taken g a .1 h)
 
-pub took-most : (g : List ℕ) (a : ℕ) → a < CN → length (taken g a .0) ≤ CN
-took-most g a h = walk-cost .most g a _ h (taken g a .1 h)
+pub took-few : (g : List ℕ) (a : ℕ) → a < CN → toBorder g a .taken ≤ CN
+took-few g a h = omega (arith, walk-took g a h, walk-cost .most g a (taken g a .0) h (taken g a .1 h))

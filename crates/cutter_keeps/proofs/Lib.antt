@@ -13,3 +13,4 @@ pub mod Accounts
 pub mod Nearest
 pub mod Sweeps
 pub mod Share
+pub mod Cost

@@ -19,7 +19,7 @@ use Rattle.cutter_state.specs.Change.{withGrid}
 use Rattle.cutter_state.specs.WellFormed.{isCode, isTrail, WellFormed}
 use Rattle.cutter_state.proofs.Ring.{code-holds, row-filled, rows-kept, columns-kept}
 use Rattle.cutter_rules.specs.Level.{atStart}
-use Rattle.cutter_rules.specs.Step.{lineErased, respawned}
+use Rattle.cutter_rules.specs.Step.{lineErased, backAtStart, respawned}
 use Rattle.cutter_keeps.specs.Kept.{Erased}
 use Rattle.cutter_keeps.proofs.Border.{border-kept}
 use Rattle.cutter_keeps.proofs.Changes.{erased-then}
@@ -68,10 +68,7 @@ module _ (g : List ℕ) where
 
 -- ---- the state
 
-abbrev pub atStartErased : Cutter → Cutter
-atStartErased c = withGrid (atStart c) (map lineErased (c .grid))
-
-pub erased-start : (c : Cutter) → WellFormed c → Erased c (atStartErased c)
+pub erased-start : (c : Cutter) → WellFormed c → Erased c (backAtStart c)
 unfolding atStart
 erased-start c w =
     let g = c .grid in
@@ -101,4 +98,4 @@ erased-start c w =
 
 pub respawn-erased : (c : Cutter) → WellFormed c → Erased c (respawned c)
 unfolding respawned atStart
-respawn-erased c w = let e = erased-start c w in erased-then e (border-kept (atStartErased c) (e .formed) refl)
+respawn-erased c w = let e = erased-start c w in erased-then e (border-kept (backAtStart c) (e .formed) refl)

@@ -1,5 +1,5 @@
 -- A cut closed by sweeps is the cut closed. Assumes nothing.
-use mathlib.Core.Bool.{false}
+use mathlib.Core.Bool.{false, cond}
 use mathlib.Core.List.{List}
 use mathlib.Core.Path.{_≡_, refl, sym, ap, _∙_}
 use Prim.Native.Nat.{ℕ}
@@ -19,6 +19,7 @@ use Rattle.cutter_state.specs.Change.{withGrid, withCreatures, withTrailing}
 use Rattle.cutter_rules.specs.Step.{target, entered, cutClosed, atBorder, stepped, closes}
 use Rattle.cutter_keeps.proofs.Steps.{closes-step}
 use Rattle.cutter_rules.specs.Sweeps.{cutSwept, sweptStep}
+use Rattle.cutter_rules.specs.Cost.{borderWalked, stepWalked, sweptWalked}
 
 -- by any settled numbers, for every limit
 pub swept-closed : (limit : ℕ) (g L : List ℕ) (es : List Mover) → length g ≡ CN → Settled (claimLine g) L → closed limit (claimLine g) L es ≡ closeCut limit g es
@@ -37,3 +38,8 @@ swept-step c long =
     cond-both (λ s. s ≡ stepped c) (closes c) (atBorder (cutSwept (entered c (target c)))) (stepped c)
     (λ e. ap atBorder (cut-swept (entered c (target c)) long) ∙ sym (closes-step c e))
     (λ _. refl)
+
+-- and the walk after it takes as many cells
+pub swept-walked : (c : Cutter) → length (c .grid) ≡ CN → sweptWalked c ≡ stepWalked c
+unfolding sweptWalked stepWalked
+swept-walked c long = ap (λ (s : Cutter). cond (closes c) (borderWalked s) 0) (cut-swept (entered c (target c)) long)

@@ -12,9 +12,9 @@ use lib.Seq.{set-getD}
 use Rattle.cutter_ground.specs.Cells.{CW, cellAt, onBorder}
 use Rattle.cutter_state.specs.declared.Cutter.{Cutter}
 use Rattle.cutter_state.specs.Change.{withGrid, withTrailing, killed}
-use Rattle.cutter_rules.specs.Step.{playerCell, entered, laid, stopped, stepped}
+use Rattle.cutter_rules.specs.Step.{playerCell, target, entered, laid, stopped, stepped, closes}
 use Rattle.cutter_moves.specs.declared.player.Step.{Step}
-use Rattle.cutter_moves.specs.CodeSteps.{playing, staying, laying, closedAt, applied, does, Plays, SteppedOn}
+use Rattle.cutter_moves.specs.CodeSteps.{playing, staying, laying, closedAt, applied, does, Plays, Tells, SteppedOn}
 
 -- the same with one thing changed
 abbrev pub dying : Step → Step
@@ -48,24 +48,37 @@ stays c fx fy = simp (toZ-ofZ fx, toZ-ofZ fy) refl
 
 -- what a step on the state's own ground, which is h then, makes of the state
 module _ (c : Cutter) (s r : Step) (h : List ℕ) (d : SteppedOn (c .grid) (c .enemies) (c .count) s r h) (e : s ≡ staying c) where
-  made : does c r ≡ stepped c
-  made = d .makes c (record { same = refl; stays = e }) refl refl
+  told : Tells c r (stepped c) (closes c) (target c)
+  told = d .makes c (record { same = refl; stays = e }) refl refl
+
+  -- it closes a cut where the rule does, at the rule's cell
+  pub shuts : r .closes ≡ closes c
+  shuts = told .shuts
+
+  pub shuts-at : r .closes ≡ true → r .at ≡ target c
+  shuts-at = told .there
 
   -- a cut is yet to be closed
   pub same-ground : r .closes ≡ true → h ≡ c .grid
   same-ground t = d .ground ∙ sym (first-chosen (r .closes) (c .grid) (set (c .grid) (r .at) (r .code)) t)
 
   pub shut-made : r .closes ≡ true → closedAt c (r .at) ≡ stepped c
-  shut-made t = first-chosen (r .closes) (closedAt c (r .at)) (applied c r) t ∙ made
+  shut-made t = first-chosen (r .closes) (closedAt c (r .at)) (applied c r) t ∙ told .makes
 
   -- the step closes nothing
   pub left-made : r .closes ≡ false → withGrid (applied c r) h ≡ stepped c
   left-made f =
       ap (withGrid (applied c r)) (d .ground ∙ sym (second-chosen (r .closes) (c .grid) (set (c .grid) (r .at) (r .code)) f))
       ∙ second-chosen (r .closes) (closedAt c (r .at)) (applied c r) f
-      ∙ made
+      ∙ told .makes
 
 module _ {c : Cutter} {g : List ℕ} {s : Step} (p : Plays c g s) where
+  -- a step that closes no cut, as the rule
+  pub open-tells : {r : Step} {after : Cutter} {b : Bool} {t : ℕ} → r .closes ≡ s .closes → b ≡ false → does c r ≡ after → Tells c r after b t
+  open-tells k f m =
+      let z = k ∙ ap (λ (x : Step). x .closes) (p .stays) in
+      record { makes = m; shuts = z ∙ sym f; there = λ e. absurd (false≢true (sym z ∙ e)) }
+
   -- the player's own cell keeps its code
   own : set (c .grid) (playerCell c) (getD (c .grid) (playerCell c) 0) ≡ c .grid
   own = set-getD (c .grid) (playerCell c) 0

@@ -1,5 +1,5 @@
 -- Block Cutter: a step told as numbers, and what they make of a state. No promise cites it.
-use mathlib.Core.Bool.{Bool, false, cond}
+use mathlib.Core.Bool.{Bool, true, false, cond}
 use mathlib.Core.List.{List}
 use mathlib.Core.Path.{_≡_}
 use Prim.Native.Nat.{ℕ, _<_, _≤_, _/_, _%_}
@@ -8,7 +8,7 @@ use lib.ListN.{length, getD, set}
 use Rattle.cutter_ground.specs.Cells.{CW, CH, CN, CB-TRAIL, place}
 use Rattle.cutter_ground.specs.declared.Mover.{Mover}
 use Rattle.cutter_state.specs.declared.Cutter.{Cutter}
-use Rattle.cutter_rules.specs.Step.{entered, cutClosed, atBorder, stepped}
+use Rattle.cutter_rules.specs.Step.{target, entered, cutClosed, atBorder, stepped, closes}
 use Rattle.cutter_moves.specs.declared.player.Step.{Step}
 use Rattle.cutter_ground.specs.Movers.{MAX-ENEMIES}
 
@@ -71,13 +71,19 @@ pub record Plays (c : Cutter) (g : List ℕ) (s : Step) : Type 0 where
   pub same : c .grid ≡ g
   pub stays : s ≡ staying c
 
+-- the step r makes this of the state c, and closes a cut or not; if so, at the cell t
+pub record Tells (c : Cutter) (r : Step) (after : Cutter) (closing : Bool) (t : ℕ) : Type 0 where
+  pub makes : does c r ≡ after
+  pub shuts : r .closes ≡ closing
+  pub there : r .closes ≡ true → r .at ≡ t
+
 -- whatever else such a state holds: the step r makes of it what the rule makes
-abbrev pub Makes : List ℕ → Step → Step → (Cutter → Cutter) → Type 0
-Makes g s r rule = (c : Cutter) → Plays c g s → does c r ≡ rule c
+abbrev pub Makes : List ℕ → Step → Step → (Cutter → Cutter) → (Cutter → Bool) → ℕ → Type 0
+Makes g s r rule closing t = (c : Cutter) → Plays c g s → Tells c r (rule c) (closing c) t
 
 -- the same of a whole step, with the creatures told
 abbrev pub Stepped : List ℕ → List Mover → ℕ → Step → Step → Type 0
-Stepped g es n s r = (c : Cutter) → Plays c g s → c .enemies ≡ es → c .count ≡ n → does c r ≡ stepped c
+Stepped g es n s r = (c : Cutter) → Plays c g s → c .enemies ≡ es → c .count ≡ n → Tells c r (stepped c) (closes c) (target c)
 
 -- a step on the lent ground, which is h afterwards
 pub record SteppedOn (g : List ℕ) (es : List Mover) (n : ℕ) (s r : Step) (h : List ℕ) : Type 0 where

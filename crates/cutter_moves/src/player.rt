@@ -1,13 +1,13 @@
 // The player: direction, step and respawn.
-ghost use mathlib.Core.Bool.{_&&_};
+ghost use mathlib.Core.Bool.{false, _&&_};
 ghost use mathlib.Core.List.{map};
 ghost use mathlib.Core.Path.{_≡_};
 ghost use Prim.Native.Nat.{_<_};
 ghost use lib.ListN.{length};
-ghost use Rattle.cutter_ground.specs.Cells.{CN};
+ghost use Rattle.cutter_ground.specs.Cells.{CN, claimedAt};
 ghost use Rattle.cutter_state.specs.Change.{withDirection};
 ghost use Rattle.cutter_state.specs.WellFormed.{isZero, WellFormed};
-ghost use Rattle.cutter_rules.specs.Step.{directed, trailingStep, walkingStep, stepped, lineErased, respawned};
+ghost use Rattle.cutter_rules.specs.Step.{directed, trailingStep, walkingStep, lineErased};
 ghost use Rattle.cutter_moves.specs.CodeSteps.{playing, laying, Lends, Walks, Makes, Decides, Stepped, SteppedOn};
 use crate::ahead::diagonal_of;
 use crate::enemies::enemy_at;
@@ -28,9 +28,10 @@ use cutter_ground::Mover;
 use cutter_ground::cell;
 use cutter_ground::on_border;
 use cutter_level::at_start;
+use cutter_rules::Made;
 use cutter_state::Cutter;
 use found::Found;
-ghost use Rattle.cutter_rules.specs.Sweeps.{sweptStep};
+ghost use Rattle.cutter_rules.specs.Cost.{stepMade, sweptMade, respawnMade};
 
 fn turn_to(c: Cutter, dx: i8, dy: i8) -> Cutter
     ensures { λ r. ⌜ r ≡ withDirection c dx dy ⌝ }
@@ -88,7 +89,7 @@ fn lay(s: Step, at: usize) -> Step
 // While drawing: crossing your own line is fatal, claimed ground closes the cut, black takes the line on. `s` is what staying is.
 fn step_trailing(grid: &[u8; CN], s: Step, at: usize) -> Step
     requires { ⌜ Lends (now grid) s at ⌝ }
-    ensures { λ r. ⌜ Makes (now (grid .entry)) s r (λ c. trailingStep c at) × (r .at < CN) ⌝ }
+    ensures { λ r. ⌜ Makes (now (grid .entry)) s r (λ c. trailingStep c at) (λ c. claimedAt (c .grid) at) at × (r .at < CN) ⌝ }
 {
     let target = cell(grid, at);
     if target == CB_TRAIL {
@@ -108,7 +109,7 @@ fn step_trailing(grid: &[u8; CN], s: Step, at: usize) -> Step
 // Claimed ground is walkable only along the black's border: the player stops at the edge of the rest. Black starts a line.
 fn step_walking(grid: &[u8; CN], s: Step, at: usize) -> Step
     requires { ⌜ Lends (now grid) s at ⌝ }
-    ensures { λ r. ⌜ Makes (now (grid .entry)) s r (λ c. walkingStep c at) × (r .at < CN) ⌝ }
+    ensures { λ r. ⌜ Makes (now (grid .entry)) s r (λ c. walkingStep c at) (λ _. false) at × (r .at < CN) ⌝ }
 {
     if cell(grid, at) == CB_FILLED {
         let mut to = s;
@@ -192,9 +193,9 @@ pub fn step_on(
 }
 
 // One movement step. The state is copied once, and changed where it lies.
-pub fn step_player(c: Cutter) -> Cutter
+pub fn step_player(c: Cutter) -> Made
     requires { ⌜ WellFormed c ⌝ }
-    ensures { λ r. ⌜ r ≡ stepped c ⌝ }
+    ensures { λ r. ⌜ r ≡ stepMade c ⌝ }
 {
     let mut out = c;
     let enemies = c.enemies;
@@ -220,7 +221,11 @@ pub fn step_player(c: Cutter) -> Cutter
         out.trailing = false;
         out.px = end.at % CW;
         out.py = end.at / CW;
-        return out;
+        return Made {
+            game: out,
+            searched: herd.searched,
+            walked: end.taken as u16,
+        };
     }
     out.px = to.px;
     out.py = to.py;
@@ -228,13 +233,17 @@ pub fn step_player(c: Cutter) -> Cutter
     out.dy = to.dy;
     out.trailing = to.trailing;
     out.dead = to.dead;
-    out
+    Made {
+        game: out,
+        searched: 0,
+        walked: 0,
+    }
 }
 
 // One movement step whose cut is closed by sweeps.
-pub fn step_by_sweeps(c: Cutter) -> Cutter
+pub fn step_by_sweeps(c: Cutter) -> Made
     requires { ⌜ WellFormed c ⌝ }
-    ensures { λ r. ⌜ r ≡ sweptStep c ⌝ }
+    ensures { λ r. ⌜ r ≡ sweptMade c ⌝ }
 {
     let mut out = c;
     let enemies = c.enemies;
@@ -258,7 +267,11 @@ pub fn step_by_sweeps(c: Cutter) -> Cutter
         out.trailing = false;
         out.px = end.at % CW;
         out.py = end.at / CW;
-        return out;
+        return Made {
+            game: out,
+            searched: 0,
+            walked: end.taken as u16,
+        };
     }
     step_player(c)
 }
@@ -281,8 +294,8 @@ fn erase_line(grid: &mut [u8; CN])
 }
 
 // The line is black again, and the player back at the start, or on the nearest cell beside black: the start can end up inside claimed ground.
-pub fn respawn(c: Cutter) -> Cutter
-    ensures { λ r. ⌜ r ≡ respawned c ⌝ }
+pub fn respawn(c: Cutter) -> Made
+    ensures { λ r. ⌜ r ≡ respawnMade c ⌝ }
 {
     let mut out = at_start(c);
     erase_line(&mut out.grid);
@@ -290,5 +303,9 @@ pub fn respawn(c: Cutter) -> Cutter
     let end = move_to_border(&out.grid, at);
     out.px = end.at % CW;
     out.py = end.at / CW;
-    out
+    Made {
+        game: out,
+        searched: 0,
+        walked: end.taken as u16,
+    }
 }

@@ -1,9 +1,9 @@
 -- The player's step, by what it finds on the way. Assumes nothing.
-use mathlib.Core.Bool.{Bool, true, false, cond}
+use mathlib.Core.Bool.{Bool, true, false, cond, _&&_}
 use mathlib.Core.Path.{_≡_, sym, ap, _∙_}
 use Prim.Native.Nat.{ℕ, _/_, _%_, _≤_, _<_}
 use native.Mathlib.Omega.{arith}
-use borrow.Author.Tests.{le-leb, lt-leb}
+use borrow.Author.Tests.{le-leb, lt-leb, le-ltb, lt-ltb}
 use Rattle.found.specs.declared.Found.{Found}
 use Rattle.found.specs.declared.Found.the-variants.{At, Nobody}
 use Rattle.cutter_ground.specs.Cells.{CW, CN, onBorder, lineAt, claimedAt, place}
@@ -11,7 +11,7 @@ use Rattle.cutter_border.proofs.Nearest.{nearest}
 use Rattle.cutter_state.specs.declared.Cutter.{Cutter}
 use Rattle.cutter_state.specs.State.{creatures}
 use Rattle.cutter_state.specs.Change.{killed}
-use Rattle.cutter_rules.specs.Step.{noDirection, stopped, playerCell, target, cutClosed, atBorder, trailingStep, walkingStep, met, stepped, creatureAt}
+use Rattle.cutter_rules.specs.Step.{noDirection, stopped, playerCell, target, cutClosed, atBorder, trailingStep, walkingStep, met, stepped, creatureAt, advances, closes}
 
 -- no direction, nothing
 pub step-none : (c : Cutter) → noDirection c ≡ true → c ≡ stepped c
@@ -39,6 +39,24 @@ module _ (c : Cutter) (d : noDirection c ≡ false) (t : ℕ) (e : t ≡ target 
   pub step-walking : (f : Found) → t < CN → f ≡ creatureAt (creatures c) t → f ≡ Nobody → c .trailing ≡ false → walkingStep c t ≡ stepped c
   unfolding met
   step-walking f h q a b = ap (λ (x : Bool). cond x (trailingStep c t) (walkingStep c t)) (sym b) ∙ (rw a at (step-on f h q))
+
+-- and whether it closes a cut
+pub closes-none : (c : Cutter) → noDirection c ≡ true → closes c ≡ false
+unfolding closes advances
+closes-none c d = rw d
+
+module _ (c : Cutter) (d : noDirection c ≡ false) (t : ℕ) (e : t ≡ target c) where
+  pub closes-off : CN ≤ t → closes c ≡ false
+  unfolding closes advances
+  closes-off h = rw (d, ← e, le-ltb t CN h)
+
+  pub closes-killed : (f : Found) {i n : ℕ} → t < CN → f ≡ creatureAt (creatures c) t → f ≡ At i n → closes c ≡ false
+  unfolding closes advances
+  closes-killed f h q a = rw (d, ← e, lt-ltb t CN h, ← q, a)
+
+  pub closes-free : (f : Found) (b : Bool) → t < CN → f ≡ creatureAt (creatures c) t → f ≡ Nobody → c .trailing ≡ b → closes c ≡ (b && claimedAt (c .grid) t)
+  unfolding closes advances
+  closes-free f b h q a k = rw (d, ← e, lt-ltb t CN h, ← q, a, k)
 
 -- claimed ground without black around it is not entered, and the direction clears
 pub inland-stops : (c : Cutter) (t : ℕ) → claimedAt (c .grid) t ≡ true → onBorder (c .grid) t ≡ false → walkingStep c t ≡ stopped c

@@ -3,3 +3,4 @@ pub mod Level
 pub mod Step
 pub mod Tick
 pub mod Sweeps
+pub mod Cost

@@ -121,6 +121,10 @@ closes c = advances c && (c .trailing && claimedAt (c .grid) (target c))
 abbrev pub lineErased : ℕ → ℕ
 lineErased k = cond (eqb k CB-TRAIL) CB-BLACK k
 
--- line back to black, player (32,0), no direction, not trailing, then to the border
+-- line back to black, player (32,0), no direction, not trailing
+abbrev pub backAtStart : Cutter → Cutter
+backAtStart c = withGrid (atStart c) (map lineErased (c .grid))
+
+-- then to the border
 unfoldable pub respawned : Cutter → Cutter
-respawned c = atBorder (withGrid (atStart c) (map lineErased (c .grid)))
+respawned c = atBorder (backAtStart c)

@@ -1,11 +1,11 @@
-use mathlib.Core.Path.{ap, sym, _∙_}
+use mathlib.Core.Path.{_∙_}
+use native.Mathlib.Omega.{arith}
 use borrow.Author.Needs.{needs}
 use mir.Syntax.{w8}
 use mir.Val.{SFits}
 use Rattle.cutter_capture.specs.CodeSteps.{cutOf}
-use Rattle.cutter_keeps.proofs.Sweeps.{swept-step}
 use Rattle.cutter_moves.proofs.Applied.{stays}
-use Rattle.cutter_moves.proofs.Step.{on-grid, shut-closes, shut-standing, shut-step}
+use Rattle.cutter_moves.proofs.Step.{on-grid, shut-closes, shut-standing, walk-few, shut-sweeps, left-sweeps}
 use Rattle.cutter_moves.proofs.player.step_by_sweeps.Statement.{statement}
 use Rattle.cutter_moves.proofs.player.step_by_sweeps.Tie as tie
 
@@ -32,23 +32,37 @@ move-to-border-requires c κs =
     let s = d .before .before .before .before .before in
     let e = stays (s .args .c) (signed s .0) (signed s .1) in
     shut-standing (s .args .c) (s .pre) _ (d .step-on .result) _ (d .step-on .ensures) e (k .before .before .if1 .taken)
-    (cutOf (k .close-by-sweeps .last .0) (k .close-by-sweeps .result)) (k .close-by-sweeps .ensures)
+    (cutOf (k .close-by-sweeps .last .0) (k .close-by-sweeps .result)) (k .close-by-sweeps .ensures .cut)
 
-returns : tie.Need-returns
-returns c =
-    let w = c .before .before .before in
+cast-t11 : tie.Need-cast-t11
+cast-t11 c =
+    let w = c .before .before .before .before in
     let k = w .before .before .before in
     let d = k .before .before .before in
     let s = d .before .before .before .before .before in
     let e = stays (s .args .c) (signed s .0) (signed s .1) in
-    shut-step (s .args .c) (s .pre) _ (d .step-on .result) _ (d .step-on .ensures) e (k .before .before .if1 .taken)
-    (cutOf (k .close-by-sweeps .last .0) (k .close-by-sweeps .result)) (k .close-by-sweeps .ensures) (w .move-to-border .result .at) (ap (λ r. r .at) (w .move-to-border .ensures))
-    ∙ sym (swept-step (s .args .c) (s .pre .cells))
+    omega (
+      arith,
+      walk-few (s .args .c) (s .pre) _ (d .step-on .result) _ (d .step-on .ensures) e (k .before .before .if1 .taken)
+          (cutOf (k .close-by-sweeps .last .0) (k .close-by-sweeps .result)) (k .close-by-sweeps .ensures .cut) (w .move-to-border .result) (w .move-to-border .ensures),
+    )
+
+returns : tie.Need-returns
+returns c =
+    let w = c .before .before .before .before in
+    let k = w .before .before .before in
+    let d = k .before .before .before in
+    let s = d .before .before .before .before .before in
+    let e = stays (s .args .c) (signed s .0) (signed s .1) in
+    shut-sweeps (s .args .c) (s .pre) _ (d .step-on .result) _ (d .step-on .ensures) e (k .before .before .if1 .taken)
+    (cutOf (k .close-by-sweeps .last .0) (k .close-by-sweeps .result)) (k .close-by-sweeps .ensures .cut) (w .move-to-border .result) (w .move-to-border .ensures)
 
 returns-2 : tie.Need-returns-2
 returns-2 c =
-    let s = c .before .before .before .before .before .before .before in
-    c .step-player .ensures ∙ sym (swept-step (s .args .c) (s .pre .cells))
+    let d = c .before .before in
+    let s = d .before .before .before .before .before in
+    let e = stays (s .args .c) (signed s .0) (signed s .1) in
+    c .step-player .ensures ∙ left-sweeps (s .args .c) _ (d .step-on .result) _ (d .step-on .ensures) e (c .before .if1 .left) (s .pre)
 
 pub step-by-sweeps-spec : {M : Type 1} → statement M
 step-by-sweeps-spec =
@@ -58,6 +72,7 @@ step-by-sweeps-spec =
     (λ c. search needs)
     close-by-sweeps-requires
     move-to-border-requires
+    cast-t11
     returns
     (λ c κs. search needs)
     returns-2)
