@@ -11,22 +11,27 @@ use Rattle.cutter_state.specs.declared.Cutter.{Cutter}
 use Rattle.cutter_state.specs.Change.{withLevel, withLives, stateOf}
 use Rattle.cutter_state.specs.WellFormed.{MAX-LIVES, refusalOf}
 use Rattle.cutter_rules.specs.Level.{creaturesOf, drawsOk, freshLevel}
-use Rattle.cutter_rules.specs.Step.{directed, stepped, respawned}
+use Rattle.cutter_rules.specs.Step.{directed}
 use Rattle.cutter_rules.specs.Tick.{enemiesStepped}
 use Rattle.cutter.specs.declared.calls.CutterAnswer.{CutterAnswer}
 use Rattle.cutter.specs.declared.calls.Ground.{Ground}
 use Rattle.cutter_state.specs.State.{blackIn, claimedIn, lineIn, shareIn}
 use Rattle.cutter_ground.specs.Movers.{slots}
 use Rattle.controls.specs.Keys.{LEFT}
-use Rattle.cutter_rules.specs.Sweeps.{sweptStep}
+use Rattle.cutter_rules.specs.Cost.{stepMade, sweptMade, respawnMade}
+use Rattle.cutter_rules.specs.declared.Made.{Made}
 
 -- a refused call returns the number and the state it got
 abbrev pub refused : Cutter → ℕ → CutterAnswer
-refused c n = record { refusal = n; game = c }
+refused c n = record { refusal = n; game = c; searched = 0; walked = 0 }
 
--- one that is not returns no number and the state after
+-- one that is not returns no number and the state after, with the cells that a search and a walk took
+abbrev pub made : Made → CutterAnswer
+made m = record { refusal = NONE; game = m .game; searched = m .searched; walked = m .walked }
+
+-- zero for a call without a search
 abbrev pub answered : Cutter → CutterAnswer
-answered c = record { refusal = NONE; game = c }
+answered c = record { refusal = NONE; game = c; searched = 0; walked = 0 }
 
 -- a call that gets no state gives zeros and false flags in its place
 unfoldable pub zeros : Cutter
@@ -56,11 +61,11 @@ directionCall c dir = refusedOr (refusalOf c then unless (leb dir LEFT) COMMAND)
 
 -- step
 unfoldable pub stepCall : Cutter → CutterAnswer
-stepCall c = refusedOr (refusalOf c) (refused c) (answered (stepped c))
+stepCall c = refusedOr (refusalOf c) (refused c) (made (stepMade c))
 
 -- step, a cut closed by sweeps
 unfoldable pub sweepsCall : Cutter → CutterAnswer
-sweepsCall c = refusedOr (refusalOf c) (refused c) (answered (sweptStep c))
+sweepsCall c = refusedOr (refusalOf c) (refused c) (made (sweptMade c))
 
 -- creature tick
 unfoldable pub enemiesCall : Cutter → CutterAnswer
@@ -68,7 +73,7 @@ enemiesCall c = refusedOr (refusalOf c) (refused c) (answered (enemiesStepped c)
 
 -- respawn
 unfoldable pub respawnCall : Cutter → CutterAnswer
-respawnCall c = refusedOr (refusalOf c) (refused c) (answered (respawned c))
+respawnCall c = refusedOr (refusalOf c) (refused c) (made (respawnMade c))
 
 -- ---- ground report: black, claimed and line cells, and the share
 

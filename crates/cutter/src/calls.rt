@@ -21,10 +21,13 @@ ghost use Rattle.cutter.specs.Calls.{zeros, roundCall, levelCall, direct
 ghost use Rattle.cutter_ground.specs.Cells.{RING};
 ghost use Rattle.cutter_state.specs.State.{shareOf};
 
+// The state afterwards, and how many cells were taken by the search of a closing and by the walk to the border.
 #[repr(C)]
 pub struct CutterAnswer {
     pub refusal: Refusal,
     pub game: Cutter,
+    pub searched: u16,
+    pub walked: u16,
 }
 
 // How much of the ground is black, claimed and line, and the percentage of it that is no longer black.
@@ -76,11 +79,15 @@ pub fn new_round(draws: &[u8]) -> CutterAnswer
         return CutterAnswer {
             refusal: refusal::NONE,
             game: cutter_level::new_level(c, draws),
+            searched: 0,
+            walked: 0,
         };
     }
     CutterAnswer {
         refusal: refusal::DRAWS,
         game: c,
+        searched: 0,
+        walked: 0,
     }
 }
 
@@ -93,17 +100,23 @@ pub fn new_level(c: Cutter, draws: &[u8]) -> CutterAnswer
         return CutterAnswer {
             refusal: no,
             game: c,
+            searched: 0,
+            walked: 0,
         };
     }
     if draws_ok(draws, creatures_of(c.level)) {
         return CutterAnswer {
             refusal: refusal::NONE,
             game: cutter_level::new_level(c, draws),
+            searched: 0,
+            walked: 0,
         };
     }
     CutterAnswer {
         refusal: refusal::DRAWS,
         game: c,
+        searched: 0,
+        walked: 0,
     }
 }
 
@@ -116,17 +129,23 @@ pub fn direction(c: Cutter, dir: u8) -> CutterAnswer
         return CutterAnswer {
             refusal: no,
             game: c,
+            searched: 0,
+            walked: 0,
         };
     }
     if LEFT < dir {
         return CutterAnswer {
             refusal: refusal::COMMAND,
             game: c,
+            searched: 0,
+            walked: 0,
         };
     }
     CutterAnswer {
         refusal: refusal::NONE,
         game: cutter_moves::direction(c, dir),
+        searched: 0,
+        walked: 0,
     }
 }
 
@@ -139,11 +158,17 @@ pub fn step_player(c: Cutter) -> CutterAnswer
         return CutterAnswer {
             refusal: no,
             game: c,
+            searched: 0,
+            walked: 0,
         };
     }
+    let made = cutter_moves::step_player(c);
+    let game = made.game;
     CutterAnswer {
         refusal: refusal::NONE,
-        game: cutter_moves::step_player(c),
+        game: game,
+        searched: made.searched,
+        walked: made.walked,
     }
 }
 
@@ -156,11 +181,17 @@ pub fn step_by_sweeps(c: Cutter) -> CutterAnswer
         return CutterAnswer {
             refusal: no,
             game: c,
+            searched: 0,
+            walked: 0,
         };
     }
+    let made = cutter_moves::step_by_sweeps(c);
+    let game = made.game;
     CutterAnswer {
         refusal: refusal::NONE,
-        game: cutter_moves::step_by_sweeps(c),
+        game: game,
+        searched: made.searched,
+        walked: made.walked,
     }
 }
 
@@ -173,11 +204,15 @@ pub fn step_enemies(c: Cutter) -> CutterAnswer
         return CutterAnswer {
             refusal: no,
             game: c,
+            searched: 0,
+            walked: 0,
         };
     }
     CutterAnswer {
         refusal: refusal::NONE,
         game: cutter_moves::step_enemies(c),
+        searched: 0,
+        walked: 0,
     }
 }
 
@@ -190,11 +225,17 @@ pub fn respawn(c: Cutter) -> CutterAnswer
         return CutterAnswer {
             refusal: no,
             game: c,
+            searched: 0,
+            walked: 0,
         };
     }
+    let made = cutter_moves::respawn(c);
+    let game = made.game;
     CutterAnswer {
         refusal: refusal::NONE,
-        game: cutter_moves::respawn(c),
+        game: game,
+        searched: made.searched,
+        walked: made.walked,
     }
 }
 

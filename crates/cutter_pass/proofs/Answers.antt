@@ -10,8 +10,10 @@ use Rattle.pace.specs.declared.Ticks.{Ticks}
 use Rattle.pace.specs.Pace.{bothTicks}
 use Rattle.cutter_state.specs.declared.Cutter.{Cutter}
 use Rattle.cutter_rules.specs.Tick.{enemiesStepped}
+use Rattle.cutter_rules.specs.declared.Made.{Made}
 use Rattle.cutter_pass.specs.declared.CutterTurn.{CutterTurn}
-use Rattle.cutter_pass.specs.Pass.{CUT-MOVE-CYCLES, CUT-ENEMY-CYCLES, passRefusal, nextLevel, played, stepScored, still, afterDeath, afterKeys, passOn, passAt}
+use Rattle.cutter_pass.specs.Pass.{CUT-MOVE-CYCLES, CUT-ENEMY-CYCLES, passRefusal, nextLevel, played, costing, still, afterDeath, afterKeys, passOn, passAt}
+use Rattle.cutter_pass.specs.CodePass.{stepIf}
 use Rattle.controls.specs.Keys.{Played}
 
 module _ (first second time : ℕ) (p : Played Cutter) where
@@ -20,8 +22,8 @@ module _ (first second time : ℕ) (p : Played Cutter) where
   after-quit k = rw k
 
   pub after-ticks : p .quit ≡ false → {due : Ticks} → due ≡ bothTicks time first second CUT-MOVE-CYCLES CUT-ENEMY-CYCLES
-      → {s : Cutter} → s ≡ cond (due .one) (stepScored (p .game)) (p .game) → {game : Cutter} → game ≡ cond (due .two) (enemiesStepped s) s
-      → still (due .first) (due .second) NONE GoingOn game ≡ afterKeys first second time p
+      → {m : Made} → m ≡ stepIf (due .one) (p .game) → {game : Cutter} → game ≡ cond (due .two) (enemiesStepped (m .game)) (m .game)
+      → costing (due .first) (due .second) NONE GoingOn game (m .searched) (m .walked) ≡ afterKeys first second time p
   unfolding afterKeys
   after-ticks k t f g = rw (k, g, f, t)
 

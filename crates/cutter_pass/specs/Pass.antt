@@ -16,6 +16,7 @@ use Rattle.cutter_state.specs.WellFormed.{MAX-LEVEL, refusalOf}
 use Rattle.cutter_rules.specs.Level.{creaturesOf, drawsOk, freshLevel}
 use Rattle.cutter_rules.specs.Step.{directed, stepped, respawned}
 use Rattle.cutter_rules.specs.Tick.{enemiesStepped}
+use Rattle.cutter_rules.specs.Cost.{stepSearched, stepWalked, respawnWalked}
 use Rattle.cutter_pass.specs.declared.CutterTurn.{CutterTurn}
 use Rattle.cutter_ground.specs.Cells.{INNER}
 use Rattle.cutter_state.specs.State.{blackIn}
@@ -87,16 +88,34 @@ paced c due =
     let after : Cutter = cond (due .one) (stepScored c) c in
     cond (due .two) (enemiesStepped after) after
 
+-- the cells that its search and its walk take
+abbrev pub pacedSearched : Cutter → Ticks → ℕ
+pacedSearched c due = cond (due .one) (stepSearched c) 0
+
+abbrev pub pacedWalked : Cutter → Ticks → ℕ
+pacedWalked c due = cond (due .one) (stepWalked c) 0
+
 -- ---- the pass
 
 module _ (first second : ℕ) where
-  -- the record as it was
+  -- the record with these marks, and the cells that a search and a walk took
+  abbrev pub costing : ℕ → Answer → Cutter → ℕ → ℕ → CutterTurn
+  costing refusal answer c searched walked =
+      record {
+        first = first;
+        second = second;
+        passed = record { refusal = refusal; answer = answer; game = c; searched = searched; walked = walked };
+      }
+
+  -- neither search nor walk
   abbrev pub still : ℕ → Answer → Cutter → CutterTurn
-  still refusal answer c = record { first = first; second = second; passed = record { refusal = refusal; answer = answer; game = c } }
+  still refusal answer c = costing refusal answer c 0 0
 
   -- over at 0 lives, else respawn, end of pass
   unfoldable pub afterDeath : Cutter → CutterTurn
-  afterDeath c = cond (eqb (hurt c .lives) 0) (still NONE Over (hurt c)) (still NONE GoingOn (respawned (hurt c)))
+  afterDeath c =
+      cond (eqb (hurt c .lives) 0) (still NONE Over (hurt c))
+      (costing NONE GoingOn (respawned (hurt c)) 0 (respawnWalked (hurt c)))
 
   -- which of step and creatures are due at a reading, and the marks after it
   abbrev pub ticksAt : ℕ → Ticks
@@ -107,7 +126,17 @@ module _ (first second : ℕ) where
   afterKeys time p =
       let due : Ticks = ticksAt time in
       cond (p .quit) (still NONE Quit (p .game))
-      (record { first = due .first; second = due .second; passed = record { refusal = NONE; answer = GoingOn; game = paced (p .game) due } })
+      (record {
+        first = due .first;
+        second = due .second;
+        passed = record {
+          refusal = NONE;
+          answer = GoingOn;
+          game = paced (p .game) due;
+          searched = pacedSearched (p .game) due;
+          walked = pacedWalked (p .game) due;
+        };
+      })
 
   -- dead first; else level won; else the keys
   unfoldable pub passOn : Cutter → List ℕ → List ℕ → ℕ → CutterTurn

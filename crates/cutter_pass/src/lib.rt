@@ -15,10 +15,13 @@ pub const CLEAR_BLACK_PCT: usize = 25;
 
 pub const CLEAR_BELOW: usize = INNER * CLEAR_BLACK_PCT / 100;
 
+// The state afterwards, and how many cells were taken by the search of its step's closing and by its walk to the border.
 pub struct CutterPassed {
     pub refusal: Refusal,
     pub answer: Answer,
     pub game: Cutter,
+    pub searched: u16,
+    pub walked: u16,
 }
 
 // What a pass makes on numbers: the marks, and the rest.

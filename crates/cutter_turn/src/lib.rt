@@ -23,6 +23,7 @@ use cutter_pass::CUT_ENEMY_CYCLES;
 use cutter_pass::CUT_MOVE_CYCLES;
 use cutter_pass::CutterPassed;
 use cutter_pass::CutterTurn;
+use cutter_rules::Made;
 use cutter_state::Cutter;
 use cutter_state::MAX_LEVEL;
 use pace::both_ticks;
@@ -33,8 +34,8 @@ ghost use Prim.Native.Nat.{_-_};
 ghost use Rattle.cutter_state.specs.WellFormed.{WellFormed};
 ghost use Rattle.cutter_rules.specs.Tick.{enemiesStepped};
 ghost use Rattle.cutter_turn.specs.CodeKeys.{isWay, Plays};
-ghost use Rattle.cutter_pass.specs.Pass.{keyed, played, scored, stepScored, levelDue, passRefusal, hurt, nextLevel, still, afterDeath, afterKeys, passAt};
-ghost use Rattle.cutter_pass.specs.CodePass.{NextLevel};
+ghost use Rattle.cutter_pass.specs.Pass.{keyed, played, scored, levelDue, passRefusal, hurt, nextLevel, costing, afterDeath, afterKeys, passAt};
+ghost use Rattle.cutter_pass.specs.CodePass.{NextLevel, stepIf};
 
 fn level_due(c: Cutter) -> bool
     ensures { λ r. ⌜ r ≡ levelDue c ⌝ }
@@ -158,15 +159,23 @@ fn score(c: Cutter) -> Cutter
     out
 }
 
-fn step_if(due: bool, c: Cutter) -> Cutter
+fn step_if(due: bool, c: Cutter) -> Made
     requires { ⌜ WellFormed c ⌝ }
-    ensures { λ r. ⌜ r ≡ cond due (stepScored c) c ⌝ }
+    ensures { λ r. ⌜ r ≡ stepIf due c ⌝ }
 {
     if due {
-        let stepped = step_player(c);
-        return score(stepped);
+        let made = step_player(c);
+        return Made {
+            game: score(made.game),
+            searched: made.searched,
+            walked: made.walked,
+        };
     }
-    c
+    Made {
+        game: c,
+        searched: 0,
+        walked: 0,
+    }
 }
 
 fn enemies_if(due: bool, c: Cutter) -> Cutter
@@ -179,13 +188,23 @@ fn enemies_if(due: bool, c: Cutter) -> Cutter
     c
 }
 
-fn turn(first: u32, second: u32, refusal: Refusal, answer: Answer, game: Cutter) -> CutterTurn
-    ensures { λ r. ⌜ r ≡ still first second refusal answer game ⌝ }
+fn turn(
+    first: u32,
+    second: u32,
+    refusal: Refusal,
+    answer: Answer,
+    game: Cutter,
+    searched: u16,
+    walked: u16,
+) -> CutterTurn
+    ensures { λ r. ⌜ r ≡ costing first second refusal answer game searched walked ⌝ }
 {
     let passed = CutterPassed {
         refusal: refusal,
         answer: answer,
         game: game,
+        searched: searched,
+        walked: walked,
     };
     CutterTurn {
         first: first,
@@ -199,10 +218,18 @@ fn after_death(c: Cutter, first: u32, second: u32) -> CutterTurn
 {
     let out = lose_life(c);
     if out.lives == 0 {
-        return turn(first, second, refusal::NONE, Answer::Over, out);
+        return turn(first, second, refusal::NONE, Answer::Over, out, 0, 0);
     }
     let back = respawn(out);
-    turn(first, second, refusal::NONE, Answer::GoingOn, back)
+    turn(
+        first,
+        second,
+        refusal::NONE,
+        Answer::GoingOn,
+        back.game,
+        0,
+        back.walked,
+    )
 }
 
 fn after_keys(c: Cutter, keys: &[u8], time: u32, first: u32, second: u32) -> CutterTurn
@@ -212,12 +239,20 @@ fn after_keys(c: Cutter, keys: &[u8], time: u32, first: u32, second: u32) -> Cut
     let pressed = play(keys);
     let played = press(c, pressed.key);
     if pressed.quit {
-        return turn(first, second, refusal::NONE, Answer::Quit, played);
+        return turn(first, second, refusal::NONE, Answer::Quit, played, 0, 0);
     }
     let due = both_ticks(time, first, second, CUT_MOVE_CYCLES, CUT_ENEMY_CYCLES);
-    let stepped = step_if(due.one, played);
-    let game = enemies_if(due.two, stepped);
-    turn(due.first, due.second, refusal::NONE, Answer::GoingOn, game)
+    let made = step_if(due.one, played);
+    let game = enemies_if(due.two, made.game);
+    turn(
+        due.first,
+        due.second,
+        refusal::NONE,
+        Answer::GoingOn,
+        game,
+        made.searched,
+        made.walked,
+    )
 }
 
 pub fn pass_at(
@@ -232,14 +267,14 @@ pub fn pass_at(
 {
     let no = refusal_of(c, draws);
     if no != refusal::NONE {
-        return turn(first, second, no, Answer::GoingOn, c);
+        return turn(first, second, no, Answer::GoingOn, c, 0, 0);
     }
     if c.dead {
         return after_death(c, first, second);
     }
     if c.won_level {
         let next = level_up(c, draws);
-        return turn(first, second, refusal::NONE, Answer::GoingOn, next);
+        return turn(first, second, refusal::NONE, Answer::GoingOn, next, 0, 0);
     }
     after_keys(c, keys, time, first, second)
 }

@@ -7,8 +7,9 @@ use borrow.Author.Tests.{eq-eqb, ne-eqb}
 use Rattle.refusal.specs.Refusal.{NONE}
 use Rattle.answer.specs.declared.Answer.the-variants.{GoingOn, Over}
 use Rattle.cutter_state.specs.declared.Cutter.{Cutter}
-use Rattle.cutter_rules.specs.Step.{respawned}
-use Rattle.cutter_pass.specs.Pass.{hurt, still, afterDeath}
+use Rattle.cutter_rules.specs.declared.Made.{Made}
+use Rattle.cutter_rules.specs.Cost.{respawnMade}
+use Rattle.cutter_pass.specs.Pass.{hurt, costing, still, afterDeath}
 use Rattle.cutter_turn.proofs.after_death.Statement.{statement}
 use Rattle.cutter_turn.proofs.after_death.Tie as tie
 
@@ -26,7 +27,9 @@ returns-2 c =
     let k = c .before .before .before .before in
     let a = k .before .args in
     let on : eqb (hurt (a .c) .lives) 0 ≡ false = ap (λ (s : Cutter). eqb (s .lives) 0) (sym (k .«lose-life» .ensures)) ∙ ne-eqb _ 0 (c .before .before .if1 .left) in
-    rw on (c .turn2 .ensures ∙ ap (still (a .first) (a .second) NONE GoingOn) (c .before .respawn .ensures ∙ ap respawned (k .«lose-life» .ensures)))
+    rw on
+    (c .turn2 .ensures ∙ ap (λ (m : Made). costing (a .first) (a .second) NONE GoingOn (m .game) 0 (m .walked))
+    (c .before .respawn .ensures ∙ ap respawnMade (k .«lose-life» .ensures)))
 
 pub after-death-spec : {M : Type 1} → statement M
 after-death-spec =
