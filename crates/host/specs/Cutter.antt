@@ -13,7 +13,7 @@ use Rattle.host.specs.declared.cutter_calls.HostCutterPassed.{HostCutter
 
 -- an answer with the host's state
 abbrev pub answerOut : CutterAnswer → HostCutterAnswer
-answerOut a = record { refusal = a .refusal; game = hostOf (a .game) }
+answerOut a = record { refusal = a .refusal; game = hostOf (a .game); searched = a .searched; walked = a .walked }
 
 -- a pass's answer by its number, with the marks that it leaves
 abbrev pub turnOut : CutterTurn → HostCutterPassed
@@ -23,15 +23,17 @@ turnOut t =
       answer = numberOf (t .passed .answer);
       marks = marksOf t;
       game = hostOf (t .passed .game);
+      searched = t .passed .searched;
+      walked = t .passed .walked;
     }
 
 -- refused: the number, and the state as it came
 abbrev pub refused : HostCutter → ℕ → HostCutterAnswer
-refused h n = record { refusal = n; game = h }
+refused h n = record { refusal = n; game = h; searched = 0; walked = 0 }
 
 -- a refused pass goes on, with state and marks as they came
 abbrev pub refusedPass : HostCutter → Pace → ℕ → HostCutterPassed
-refusedPass h marks n = record { refusal = n; answer = GOING-ON; marks = marks; game = h }
+refusedPass h marks n = record { refusal = n; answer = GOING-ON; marks = marks; game = h; searched = 0; walked = 0 }
 
 -- a call on a state
 unfoldable pub hosted : HostCutter → CutterAnswer → HostCutterAnswer

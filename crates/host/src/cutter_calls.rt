@@ -28,6 +28,8 @@ ghost use Rattle.host.specs.Cutter.{answerOut, turnOut, hosted, hostedPa
 pub struct HostCutterAnswer {
     pub refusal: Refusal,
     pub game: HostCutter,
+    pub searched: u16,
+    pub walked: u16,
 }
 
 #[repr(C)]
@@ -36,6 +38,8 @@ pub struct HostCutterPassed {
     pub answer: u8,
     pub marks: Pace,
     pub game: HostCutter,
+    pub searched: u16,
+    pub walked: u16,
 }
 
 // The list of a question: the first `count` of these, all of them where it is more.
@@ -52,6 +56,8 @@ fn answer_out(a: CutterAnswer) -> HostCutterAnswer
     HostCutterAnswer {
         refusal: a.refusal,
         game: cutter_host(game),
+        searched: a.searched,
+        walked: a.walked,
     }
 }
 
@@ -70,6 +76,8 @@ fn turn_out(t: CutterTurn) -> HostCutterPassed
         answer: answer::number(said),
         marks: marks,
         game: cutter_host(game),
+        searched: passed.searched,
+        walked: passed.walked,
     }
 }
 
@@ -91,6 +99,8 @@ pub extern "C" fn sumbadger_cutter_new_level(h: HostCutter, draws: &[u8]) -> Hos
         return HostCutterAnswer {
             refusal: no,
             game: h,
+            searched: 0,
+            walked: 0,
         };
     }
     answer_out(cutter::new_level(cutter_game(h), draws))
@@ -106,6 +116,8 @@ pub extern "C" fn sumbadger_cutter_direction(h: HostCutter, dir: u8) -> HostCutt
         return HostCutterAnswer {
             refusal: no,
             game: h,
+            searched: 0,
+            walked: 0,
         };
     }
     answer_out(cutter::direction(cutter_game(h), dir))
@@ -121,6 +133,8 @@ pub extern "C" fn sumbadger_cutter_step_player(h: HostCutter) -> HostCutterAnswe
         return HostCutterAnswer {
             refusal: no,
             game: h,
+            searched: 0,
+            walked: 0,
         };
     }
     answer_out(cutter::step_player(cutter_game(h)))
@@ -136,6 +150,8 @@ pub extern "C" fn sumbadger_cutter_step_by_sweeps(h: HostCutter) -> HostCutterAn
         return HostCutterAnswer {
             refusal: no,
             game: h,
+            searched: 0,
+            walked: 0,
         };
     }
     answer_out(cutter::step_by_sweeps(cutter_game(h)))
@@ -151,6 +167,8 @@ pub extern "C" fn sumbadger_cutter_step_enemies(h: HostCutter) -> HostCutterAnsw
         return HostCutterAnswer {
             refusal: no,
             game: h,
+            searched: 0,
+            walked: 0,
         };
     }
     answer_out(cutter::step_enemies(cutter_game(h)))
@@ -166,6 +184,8 @@ pub extern "C" fn sumbadger_cutter_respawn(h: HostCutter) -> HostCutterAnswer
         return HostCutterAnswer {
             refusal: no,
             game: h,
+            searched: 0,
+            walked: 0,
         };
     }
     answer_out(cutter::respawn(cutter_game(h)))
@@ -189,6 +209,8 @@ pub extern "C" fn sumbadger_cutter_pass(
             answer: answer::number(Answer::GoingOn),
             marks: marks,
             game: h,
+            searched: 0,
+            walked: 0,
         };
     }
     turn_out(cutter::pass_marks(cutter_game(h), keys, draws, time, marks.first, marks.second))

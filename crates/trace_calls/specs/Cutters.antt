@@ -18,7 +18,7 @@ use Rattle.trace_words.specs.Numbers.{MARK, byteAt, wordAt, pairIn}
 use Rattle.trace_verdict.specs.declared.Head.{Head}
 use Rattle.trace_verdict.specs.declared.Part.{Part}
 use Rattle.trace_calls.specs.Either.{onEither}
-use Rattle.trace_calls.specs.Shared.{exactly, atLeast, stays, cutterTold, showed, staleOf}
+use Rattle.trace_calls.specs.Shared.{exactly, atLeast, stays, cutterTold, cutterMade, showed, staleOf}
 
 -- a reading and a number of keys stand before the keys of a pass
 abbrev pub BEFORE-KEYS : ℕ
@@ -28,13 +28,16 @@ module _ (h : Head) (args current state result : List ℕ) where
   abbrev pub answered : Pace → CutterAnswer → Part
   answered p a = cutterTold h current state result (a .refusal) 0 (a .game) p
 
+  abbrev pub made : Pace → CutterAnswer → Part
+  made p a = cutterMade h current state result (a .refusal) 0 (a .game) p (a .searched) (a .walked)
+
   -- 18: the command, 1 byte
   unfoldable pub cutterDirected : Cutter → Pace → Part
   cutterDirected c p = exactly 1 args (answered p (directionCall c (byteAt 0 args)))
 
   -- 19
   unfoldable pub cutterStepped : Cutter → Pace → Part
-  cutterStepped c p = exactly 0 args (answered p (stepCall c))
+  cutterStepped c p = exactly 0 args (made p (stepCall c))
 
   -- 20
   unfoldable pub cutterTicked : Cutter → Pace → Part
@@ -42,7 +45,7 @@ module _ (h : Head) (args current state result : List ℕ) where
 
   -- 21
   unfoldable pub cutterRespawned : Cutter → Pace → Part
-  cutterRespawned c p = exactly 0 args (answered p (respawnCall c))
+  cutterRespawned c p = exactly 0 args (made p (respawnCall c))
 
   -- 22: the draws
   unfoldable pub cutterLevelled : Cutter → Pace → Part
@@ -50,7 +53,8 @@ module _ (h : Head) (args current state result : List ℕ) where
 
   -- 23: reading, 4 bytes; number of keys, 2 bytes; the keys; then the draws
   abbrev pub turned : CutterTurn → Part
-  turned t = cutterTold h current state result (t .passed .refusal) (numberOf (t .passed .answer)) (t .passed .game) (marksOf t)
+  turned t =
+      cutterMade h current state result (t .passed .refusal) (numberOf (t .passed .answer)) (t .passed .game) (marksOf t) (t .passed .searched) (t .passed .walked)
 
   abbrev pub keyCount : ℕ
   keyCount = wordAt 2 MARK args
@@ -74,7 +78,7 @@ module _ (h : Head) (args current state result : List ℕ) where
 
   -- 29
   unfoldable pub cutterSwept : Cutter → Pace → Part
-  cutterSwept c p = exactly 0 args (answered p (sweepsCall c))
+  cutterSwept c p = exactly 0 args (made p (sweepsCall c))
 
   -- 32: reading, 4 bytes
   unfoldable pub cutterStarted : Cutter → Part

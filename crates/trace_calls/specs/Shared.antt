@@ -7,7 +7,7 @@ use lib.ListN.{length, replicate}
 use Rattle.mine_state.specs.declared.Mine.{Mine}
 use Rattle.cutter_state.specs.declared.Cutter.{Cutter}
 use Rattle.pace.specs.declared.Pace.{Pace}
-use Rattle.trace_words.specs.Numbers.{MARK, wordAt}
+use Rattle.trace_words.specs.Numbers.{MARK, wordAt, pairIn}
 use Rattle.trace_states.specs.Mines.{mineBytes}
 use Rattle.trace_states.specs.Cutters.{cutterBytes}
 use Rattle.trace_verdict.specs.Compare.{RECORD, compared}
@@ -44,6 +44,10 @@ module _ (h : Head) (current state result : List ℕ) where
 
   abbrev pub cutterTold : ℕ → ℕ → Cutter → Pace → Part
   cutterTold refusal answer c p = compared h current state result refusal answer (cutterBytes c (p .first) (p .second)) []
+
+  -- one that tells the cells which a search and a walk took, 2 bytes each
+  abbrev pub cutterMade : ℕ → ℕ → Cutter → Pace → ℕ → ℕ → Part
+  cutterMade refusal answer c p searched walked = compared h current state result refusal answer (cutterBytes c (p .first) (p .second)) (pairIn 2 searched walked)
 
   -- a picture: the refusal number, and the frame after
   abbrev pub showed : ℕ × List ℕ → Part

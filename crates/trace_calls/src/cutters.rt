@@ -1,5 +1,6 @@
 // The calls of Block Cutter.
 use crate::shared::START;
+use crate::shared::cutter_made;
 use crate::shared::cutter_told;
 use crate::shared::marks_of;
 use crate::shared::on_either;
@@ -19,7 +20,7 @@ use trace_words::word;
 ghost use mathlib.Core.Path.{_≡_};
 ghost use lib.ListN.{length};
 ghost use Rattle.trace_states.specs.Cutters.{CUTTER, cutterOf};
-ghost use Rattle.trace_calls.specs.Shared.{marksAt, cutterTold};
+ghost use Rattle.trace_calls.specs.Shared.{marksAt, cutterTold, cutterMade};
 ghost use Rattle.trace_calls.specs.Cutters.{cutterDirected, cutterStepped, cutterSwept, cutterTicked, cutterRespawned};
 ghost use Rattle.trace_calls.specs.Cutters.{cutterLevelled, cutterPassed, cutterPictured, cutterReported, cutterStarted};
 ghost use Rattle.trace_calls.specs.Cutters.{onCutter};
@@ -63,6 +64,31 @@ fn cutter_answered(
     cutter_told(h, a.refusal, NONE, c, p, current, state, result)
 }
 
+fn answered_made(
+    h: Head,
+    a: CutterAnswer,
+    p: Pace,
+    current: &[u8],
+    state: &[u8],
+    result: &[u8],
+) -> Part
+    ensures { λ r. ⌜ r ≡ cutterMade h (now (current .entry)) (now (state .entry)) (now (result .entry)) (a .refusal) 0 (a .game) p (a .searched) (a .walked) ⌝ }
+{
+    let c = a.game;
+    cutter_made(
+        h,
+        a.refusal,
+        NONE,
+        c,
+        p,
+        a.searched,
+        a.walked,
+        current,
+        state,
+        result,
+    )
+}
+
 fn directed(
     h: Head,
     c: Cutter,
@@ -96,7 +122,7 @@ fn stepped(
         return Part::Unread;
     }
     let a = cutter::step_player(c);
-    cutter_answered(h, a, p, current, state, result)
+    answered_made(h, a, p, current, state, result)
 }
 
 fn swept(
@@ -114,7 +140,7 @@ fn swept(
         return Part::Unread;
     }
     let a = cutter::step_by_sweeps(c);
-    cutter_answered(h, a, p, current, state, result)
+    answered_made(h, a, p, current, state, result)
 }
 
 fn ticked(
@@ -150,7 +176,7 @@ fn respawned(
         return Part::Unread;
     }
     let a = cutter::respawn(c);
-    cutter_answered(h, a, p, current, state, result)
+    answered_made(h, a, p, current, state, result)
 }
 
 fn levelled(
@@ -203,12 +229,14 @@ fn passed(
     let q = t.passed;
     let given = q.answer;
     let game = q.game;
-    cutter_told(
+    cutter_made(
         h,
         q.refusal,
         answer::number(given),
         game,
         after,
+        q.searched,
+        q.walked,
         current,
         state,
         result,

@@ -14,12 +14,13 @@ use trace_verdict::Part;
 use trace_verdict::compared_with;
 use trace_words::MARK;
 use trace_words::PLACE;
+use trace_words::put_pair;
 use trace_words::word;
 ghost use mathlib.Core.Path.{_≡_};
 ghost use lib.ListN.{length};
 ghost use Prim.Native.Nat.{_≤_};
 ghost use Rattle.trace_verdict.specs.Compare.{RECORD};
-ghost use Rattle.trace_calls.specs.Shared.{MOST, staleOf, marksAt, mineTold, cutterTold};
+ghost use Rattle.trace_calls.specs.Shared.{MOST, staleOf, marksAt, mineTold, cutterTold, cutterMade};
 ghost use Rattle.trace_calls.specs.Either.{mineLoaded, roundBegun, pageTold, onEither};
 
 // Numbers of the calls.
@@ -94,6 +95,31 @@ pub fn cutter_told(
     let mut ours = [0u8; CUTTER];
     put_cutter(c, p.first, p.second, &mut ours);
     compared_with(h, refusal, answer, &ours, current, state, b"", result)
+}
+
+// The bytes of what a search and a walk took.
+const TAKEN: usize = 4;
+
+// What a call gave that tells how many cells a search and a walk took.
+pub fn cutter_made(
+    h: Head,
+    refusal: u8,
+    answer: u8,
+    c: Cutter,
+    p: Pace,
+    searched: u16,
+    walked: u16,
+    current: &[u8],
+    state: &[u8],
+    result: &[u8],
+) -> Part
+    ensures { λ r. ⌜ r ≡ cutterMade h (now (current .entry)) (now (state .entry)) (now (result .entry)) refusal answer c p searched walked ⌝ }
+{
+    let mut ours = [0u8; CUTTER];
+    put_cutter(c, p.first, p.second, &mut ours);
+    let mut told = [0u8; TAKEN];
+    put_pair(searched as u64, walked as u64, 2, &mut told, 0);
+    compared_with(h, refusal, answer, &ours, current, state, &told, result)
 }
 
 fn load(h: Head, p: Pace, args: &[u8], current: &[u8], state: &[u8], result: &[u8]) -> Part

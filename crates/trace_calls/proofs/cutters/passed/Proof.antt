@@ -8,7 +8,7 @@ use Prim.Native.Nat.{ℕ, _+_, _-_, _<_, _≤_}
 use lib.ListN.{length, take, drop}
 use Rattle.cutter_pass.specs.Pass.{passAt, marksOf}
 use Rattle.trace_questions.proofs.Parts.{rest-is}
-use Rattle.trace_calls.specs.Shared.{atLeast, cutterTold}
+use Rattle.trace_calls.specs.Shared.{atLeast, cutterMade}
 use Rattle.trace_calls.specs.Cutters.{BEFORE-KEYS, keyCount, cutterPassed, turned}
 use Rattle.trace_calls.proofs.cutters.passed.Statement.{statement}
 use Rattle.trace_calls.proofs.cutters.passed.Tie as tie
@@ -48,9 +48,9 @@ returns-3 c =
     let draws : t .result ≡ passAt (a .c) (take (n .result) (drop BEFORE-KEYS l)) (drop (BEFORE-KEYS + n .result) l) (w .result) (a .p .first) (a .p .second) = subst
     (λ (d : List ℕ). t .result ≡ passAt (a .c) (take (n .result) (drop BEFORE-KEYS l)) d (w .result) (a .p .first) (a .p .second)) (rest-is (BEFORE-KEYS + n .result) l) keys in
     simp (le-ltb _ _ (k5 .«if1» .left), le-ltb _ _ long)
-    (c .«cutter-told» .ensures
-    ∙ ap (λ (k : ℕ). cutterTold (a .h) (a .current .now) (a .state .now) (a .result .now) (t .result .passed .refusal) k (t .result .passed .game) (marksOf (t .result)))
-    (c .before .«number» .ensures)
+    (c .«cutter-made» .ensures
+    ∙ ap (λ (k : ℕ). cutterMade (a .h) (a .current .now) (a .state .now) (a .result .now) (t .result .passed .refusal) k (t .result .passed .game) (marksOf (t .result))
+    (t .result .passed .searched) (t .result .passed .walked)) (c .before .«number» .ensures)
     ∙ ap (turned (a .h) (a .args .now) (a .current .now) (a .state .now) (a .result .now)) (draws ∙ ap₂ (λ (k m : ℕ). passAt (a .c) (take k (drop BEFORE-KEYS l))
     (drop (BEFORE-KEYS + k) l) m (a .p .first) (a .p .second)) (n .ensures .is) (w .ensures .is)))
 
