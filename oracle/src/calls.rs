@@ -1,6 +1,7 @@
 //! The public calls of documents 01 and 02 on a current state: refused by [`check`], answered by
 //! the original. The question, the page, the ground report and the start of the record are not
-//! in the original and are written from document 01, the question's number from document 02 (iii).
+//! in the original and are written from document 01, the question's number from document 02 (iii),
+//! the cells that searches take from document 02 (x).
 //!
 //! [`check`]: crate::check
 
@@ -9,6 +10,7 @@ pub mod mine;
 
 use crate::bytes::Field;
 use crate::check::Refusal;
+use crate::costs::{self, Cost};
 use crate::games::Answer;
 use crate::stand_ins::catcard_app::screen::{FRAME, STALE, WIDTH};
 use crate::state::{Cutter, Enemy, Game, Mine, Mover, Pace, State};
@@ -62,6 +64,14 @@ impl Outcome {
         Self::new(Ok(Answer::GoingOn), result)
     }
 
+    /// With the cells that the call's searches took; zeros where it was refused.
+    fn costing(self, cost: impl FnOnce() -> Cost) -> Self {
+        let cost = if self.refusal == 0 { cost() } else { Cost::default() };
+        let mut result = Vec::new();
+        cost.put(&mut result);
+        Outcome { result, ..self }
+    }
+
     /// A picture into a lent frame of this length.
     fn picture(length: u16, render: impl FnOnce(&mut [u8]) -> Result<(), Refusal>) -> Self {
         let mut frame = vec![STALE; usize::from(length)];
@@ -110,15 +120,21 @@ fn on_mine(m: &mut Mine, pace: &mut Pace, call: &Call) -> Option<Outcome> {
 }
 
 fn on_cutter(c: &mut Cutter, pace: &mut Pace, call: &Call) -> Option<Outcome> {
+    let (before, marks) = (c.clone(), *pace);
     Some(match call {
         Call::Direction(dir) => Outcome::done(cutter::direction(c, *dir)),
-        // Both ways of closing a cut give the same: tests/sweeps.rs.
-        Call::Step | Call::StepBySweeps => Outcome::done(cutter::step_player(c)),
+        // Both ways of closing a cut give the same (tests/sweeps.rs), and one has no queue.
+        Call::Step => Outcome::done(cutter::step_player(c)).costing(|| costs::step(&before)),
+        Call::StepBySweeps => {
+            Outcome::done(cutter::step_player(c)).costing(|| costs::step_by_sweeps(&before))
+        }
         Call::StepEnemies => Outcome::done(cutter::step_enemies(c)),
-        Call::Respawn => Outcome::done(cutter::respawn(c)),
+        Call::Respawn => Outcome::done(cutter::respawn(c)).costing(|| costs::respawn(&before)),
         Call::NewLevel(draws) => Outcome::done(cutter::new_level(c, draws)),
         Call::CutterPass { time, keys, draws } => {
-            Outcome::new(cutter::pass(c, keys, draws, *time, pace), Vec::new())
+            let answer = cutter::pass(c, keys, draws, *time, pace);
+            let cost = || costs::pass(&before, keys, *time, &marks);
+            Outcome::new(answer, Vec::new()).costing(cost)
         }
         Call::CutterPicture(length) => Outcome::picture(*length, |f| cutter::render(c, f)),
         Call::Ground => {

@@ -7,6 +7,7 @@ use crate::stand_ins::{catcard_app, catcard_ui, heapless};
 
 include!(concat!(env!("OUT_DIR"), "/games.rs"));
 
+pub mod counted;
 pub mod cutter;
 pub mod mine;
 

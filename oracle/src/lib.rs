@@ -3,12 +3,14 @@
 //! [`games`] holds the original module over [`stand_ins`] for the crates it leans on.
 //! [`calls`] are document 01's public calls on it, with refusals of this crate's own in
 //! [`check`]. [`trace`] writes calls with their answers, [`replay`] reads them back.
-//! What document 02 adds is written from it, and compared with the original: [`nearest`], [`sweeps`].
+//! What document 02 adds is written from it, and compared with the original: [`nearest`], [`sweeps`],
+//! [`costs`].
 
 pub mod bytes;
 pub mod calls;
 pub mod check;
 pub mod console;
+pub mod costs;
 pub mod games;
 pub mod host;
 pub mod lines;

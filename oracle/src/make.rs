@@ -2,6 +2,7 @@
 //! and the corners.
 
 pub mod battery;
+pub mod closing_corners;
 pub mod corners;
 pub mod cutter_closings;
 pub mod cutter_corners;

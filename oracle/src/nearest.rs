@@ -19,31 +19,52 @@ pub fn beside_black(grid: &[u8; CN], (x, y): Place) -> bool {
     on_grid.into_iter().any(|(x, y)| grid[(y - 1) * CW + x - 1] == BLACK)
 }
 
+/// The claimed cells that walks of one length reach and no shorter ones, each with its least
+/// spelling, the earliest first.
+type Layer = Vec<(Spelling, Place)>;
+
+/// The layers of walks from `start`, to the first with a cell beside black, or to the last.
+fn layers(grid: &[u8; CN], start: Place) -> Vec<Layer> {
+    let mut reached = [false; CN];
+    let mut layers: Vec<Layer> = Vec::new();
+    let mut layer = vec![(Spelling::new(), start)];
+    while !layer.is_empty() {
+        layer.iter().for_each(|&(_, (x, y))| reached[y * CW + x] = true);
+        let ends = layer.iter().any(|&(_, place)| beside_black(grid, place));
+        let new = |(x, y): Place| !ends && grid[y * CW + x] == CLAIMED && !reached[y * CW + x];
+        let next = longer(&layer, new);
+        layers.push(layer);
+        layer = next;
+    }
+    layers
+}
+
 /// The claimed cells beside black that have the shortest walk from `start`, each with its least
 /// spelling, the earliest first: the place. None where no walk reaches one: the place stays.
 pub fn nearest(grid: &[u8; CN], start: Place) -> Vec<(Spelling, Place)> {
-    let mut reached = [false; CN];
-    let mut layer = BTreeMap::from([(start, Spelling::new())]);
-    while !layer.is_empty() {
-        let ends = layer.iter().filter(|&(&place, _)| beside_black(grid, place));
-        let mut ends: Vec<_> = ends.map(|(&place, spelling)| (spelling.clone(), place)).collect();
-        if !ends.is_empty() {
-            ends.sort();
-            return ends;
-        }
-        layer.keys().for_each(|&(x, y)| reached[y * CW + x] = true);
-        layer = longer(layer, |(x, y)| grid[y * CW + x] == CLAIMED && !reached[y * CW + x]);
+    let last = layers(grid, start).pop().expect("the layer of the start");
+    last.into_iter().filter(|&(_, place)| beside_black(grid, place)).collect()
+}
+
+/// The cells that the walk from `start` takes (document 02, x), in order: shorter walks first, of
+/// as long ones the earlier spelling, to the place, or all where no walk reaches one. None where
+/// the start is beside black.
+pub fn taken(grid: &[u8; CN], start: Place) -> Vec<Place> {
+    if beside_black(grid, start) {
+        return Vec::new();
     }
-    Vec::new()
+    let mut cells: Vec<Place> =
+        layers(grid, start).concat().into_iter().map(|(_, place)| place).collect();
+    if let Some(end) = cells.iter().position(|&place| beside_black(grid, place)) {
+        cells.truncate(end + 1);
+    }
+    cells
 }
 
 /// The walks of a layer with one step more, the least spelling for each new cell.
-fn longer(
-    layer: BTreeMap<Place, Spelling>,
-    new: impl Fn(Place) -> bool,
-) -> BTreeMap<Place, Spelling> {
+fn longer(layer: &Layer, new: impl Fn(Place) -> bool) -> Layer {
     let mut next: BTreeMap<Place, Spelling> = BTreeMap::new();
-    for ((x, y), spelling) in layer {
+    for &(ref spelling, (x, y)) in layer {
         for (letter, dir) in (0..).zip(STEPS) {
             let Some(place) = beside(x, y, dir, CW, CH).filter(|&place| new(place)) else {
                 continue;
@@ -55,5 +76,7 @@ fn longer(
             }
         }
     }
+    let mut next: Layer = next.into_iter().map(|(place, spelling)| (spelling, place)).collect();
+    next.sort();
     next
 }

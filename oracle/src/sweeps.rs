@@ -4,7 +4,7 @@
 use crate::state::*;
 
 /// Regions counted by document 01's closing.
-const COUNTED: usize = 48;
+pub const COUNTED: usize = 48;
 
 /// One sweep over all cells: the numbers it changed, and the different ones it left.
 #[derive(Clone, Copy, Debug, PartialEq, Eq)]

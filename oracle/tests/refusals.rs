@@ -64,8 +64,9 @@ fn all_refused(game: Game, calls: Vec<Call>, refusal: u8, name: &str) {
         assert_eq!(outcome.refusal, refusal, "{name}, {call:?}");
         assert_eq!(outcome.answer as u8, 0, "{name}, {call:?}");
         assert_eq!(state, before, "{name}, {call:?}");
-        let kept = if call == Call::Ground { 0 } else { 165 };
-        assert!(outcome.result.iter().all(|&byte| byte == kept), "{name}, {call:?}");
+        let picture = matches!(call, Call::MinePicture(_) | Call::CutterPicture(_));
+        let byte = if picture { 165 } else { 0 };
+        assert!(outcome.result.iter().all(|&b| b == byte), "{name}, {call:?}");
     }
 }
 

@@ -4,7 +4,7 @@ use oracle::calls::Call;
 use oracle::make::damage::{PARTS, damaged};
 use oracle::make::mine_corners::walled;
 use oracle::make::{corners, sequences};
-use oracle::replay::{Part, Report, replay};
+use oracle::replay::{Part, Report, replay, replay_each};
 use oracle::rng::Rng;
 use oracle::state::*;
 use oracle::trace::Trace;
@@ -45,6 +45,8 @@ fn small() -> Trace {
     trace.call(Call::NewRound(vec![9, 9, 1, 1]));
     trace.call(Call::NewRound(vec![9, 9, 1]));
     trace.call(Call::Ground);
+    trace.call(Call::Step);
+    trace.call(Call::CutterPass { time: 1, keys: vec![10], draws: Vec::new() });
     trace.call(Call::Start(7));
     trace
 }
@@ -65,14 +67,16 @@ fn every_wrong_byte_of_a_small_trace_is_found() {
 
 #[test]
 fn wrong_bytes_of_the_corners_are_found() {
-    let trace = corners::corners().trace.bytes;
-    let places = answers(&trace);
-    let rng = &mut Rng::new(1);
-    for _ in 0..DAMAGES {
-        let place = rng.pick(&places);
-        let mut bytes = trace.clone();
-        bytes[place] ^= 1 << rng.below(8);
-        assert_ne!(report(&bytes).differ, 0, "byte {place}");
+    for (program, corners) in corners::all() {
+        let trace = corners.trace.bytes;
+        let places = answers(&trace);
+        let rng = &mut Rng::new(1);
+        for _ in 0..DAMAGES {
+            let place = rng.pick(&places);
+            let mut bytes = trace.clone();
+            bytes[place] ^= 1 << rng.below(8);
+            assert_ne!(report(&bytes).differ, 0, "{program}, byte {place}");
+        }
     }
 }
 
@@ -85,6 +89,7 @@ fn the_first_difference_is_told() {
         ("record", Part::Record(0)),
         ("result", Part::Result(0)),
         ("frame", Part::Result(1023)),
+        ("cost", Part::Result(2)),
     ];
     assert_eq!(parts.map(|(name, _)| name), PARTS);
     for (name, part) in parts {
@@ -96,13 +101,25 @@ fn the_first_difference_is_told() {
     }
 }
 
+/// What `replay_damaged` reads and is held to.
+#[test]
+fn the_stored_damages() {
+    let each = PARTS.map(|part| damaged(part).expect("a part").0).concat();
+    assert!(each == include_bytes!("../../crates/replay_damaged/stdin"), "not as stored");
+    let mut told = String::new();
+    let mut report =
+        replay_each(each.as_slice(), |d| told += &format!("{d}\n")).expect("in memory");
+    report.first = None;
+    assert_eq!(told + &report.to_string(), include_str!("../../crates/replay_damaged/stdout"));
+}
+
 #[test]
 fn a_difference_is_told_in_words() {
     let (trace, ..) = damaged("refusal").expect("a part");
     let words = "entry 1 at 862, call 2: refusal differs\n6 calls, 1 differ\n";
     assert_eq!(report(&trace).to_string(), words);
     let clean = report(&small().bytes);
-    assert_eq!(clean.to_string(), "11 calls, 0 differ\n");
+    assert_eq!(clean.to_string(), "13 calls, 0 differ\n");
 }
 
 #[test]

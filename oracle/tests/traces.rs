@@ -1,8 +1,10 @@
 //! Traces: deterministic, wide enough, and every state that a call gives is well formed.
 
+use std::fs;
+
 use oracle::calls::Call;
 use oracle::check;
-use oracle::games::{Answer, cutter};
+use oracle::games::{Answer, counted, cutter};
 use oracle::make::corners::{self, Corners};
 use oracle::make::{cutter_variations, sequences};
 use oracle::replay::{Seen, replay_seen};
@@ -42,36 +44,70 @@ fn a_seed_gives_one_trace() {
 }
 
 #[test]
-fn the_corners_have_everything_in_a_megabyte() {
-    let corners = corners::corners();
-    let bytes = corners.trace.bytes;
-    println!("corners: {} names, {} bytes", corners.names.len(), bytes.len());
-    assert!(bytes.len() <= MEGABYTE, "{} bytes", bytes.len());
-    let headers = headers(&bytes);
-    assert_eq!(headers.len(), corners.trace.entries);
+fn the_corners_have_everything_each_trace_below_a_megabyte() {
+    let mut seen = Vec::new();
+    let mut tally = Tally::default();
+    for (program, Corners { trace, swept, names }) in corners::all() {
+        println!("{program}: {} corners, {} bytes", names.len(), trace.bytes.len());
+        assert!(trace.bytes.len() < MEGABYTE, "{program}: {} bytes", trace.bytes.len());
+        assert!(swept.is_none_or(|swept| swept.bytes.len() < MEGABYTE));
+        let headers = headers(&trace.bytes);
+        assert_eq!(headers.len(), trace.entries);
+        seen.extend(headers);
+        let report =
+            replay_seen(trace.bytes.as_slice(), |seen| tally.see(&seen)).expect("in memory");
+        assert_eq!((report.calls, report.differ), (trace.calls, 0));
+    }
     for call in CALLS {
-        assert!(headers.iter().any(|h| h[0] == call), "no call {call}");
+        assert!(seen.iter().any(|h| h[0] == call), "no call {call}");
     }
     for refusal in 0..=8 {
-        assert!(headers.iter().any(|h| h[1] == refusal), "no refusal {refusal}");
+        assert!(seen.iter().any(|h| h[1] == refusal), "no refusal {refusal}");
     }
     for answer in 0..=4 {
-        assert!(headers.iter().any(|h| h[2] == answer), "no answer {answer}");
+        assert!(seen.iter().any(|h| h[2] == answer), "no answer {answer}");
     }
-    let mut tally = Tally::default();
-    let report = replay_seen(bytes.as_slice(), |seen| tally.see(&seen)).expect("in memory");
-    assert_eq!((report.calls, report.differ), (corners.trace.calls, 0));
 }
 
-/// What `replay` and `replay_swept` read and are held to.
+/// The bytes of a trace from each corner's first entry to the next corner's.
+fn stretches(corners: &Corners) -> Vec<(&str, &[u8])> {
+    let mut starts = vec![0];
+    let bytes = corners.trace.bytes.as_slice();
+    while let Some(header) = bytes[starts[starts.len() - 1]..].first_chunk::<12>() {
+        let length = |at| usize::from(u16::from_le_bytes([header[at], header[at + 1]]));
+        starts.push(starts[starts.len() - 1] + 12 + length(4) + length(6) + length(8));
+    }
+    let ends = corners.names.iter().skip(1).map(|&(entry, _)| entry).chain([corners.trace.entries]);
+    let each = corners.names.iter().zip(ends);
+    each.map(|((from, name), to)| (name.as_str(), &bytes[starts[*from]..starts[to]])).collect()
+}
+
+/// No corner is made again, in the same trace or in another.
+#[test]
+fn each_corner_is_made_once() {
+    let all = corners::all();
+    let each: Vec<_> = all.iter().flat_map(|(_, corners)| stretches(corners)).collect();
+    for (i, (name, bytes)) in each.iter().enumerate() {
+        let other = each[..i].iter().find(|(_, other)| other == bytes);
+        assert!(other.is_none(), "{name} is {}", other.map_or("", |(name, _)| name));
+    }
+}
+
+/// What the programs that replay corners read and are held to.
 #[test]
 fn the_stored_traces_are_the_corners() {
-    let Corners { trace, swept, .. } = corners::corners();
-    let verdict = |trace: &Trace| format!("{} calls, 0 differ\n", trace.calls);
-    assert!(trace.bytes == include_bytes!("../../crates/replay/stdin"), "not as stored");
-    assert_eq!(verdict(&trace), include_str!("../../crates/replay/stdout"));
-    assert!(swept.bytes == include_bytes!("../../crates/replay_swept/stdin"), "not as stored");
-    assert_eq!(verdict(&swept), include_str!("../../crates/replay_swept/stdout"));
+    let held = |program: &str, trace: &Trace| {
+        let file = |name: &str| format!("../crates/{program}/{name}");
+        let verdict = format!("{} calls, 0 differ\n", trace.calls);
+        assert!(fs::read(file("stdin")).expect(program) == trace.bytes, "{program}: not as stored");
+        assert_eq!(fs::read_to_string(file("stdout")).expect(program), verdict, "{program}");
+    };
+    for (program, Corners { trace, swept, .. }) in corners::all() {
+        held(program, &trace);
+        if let Some(swept) = swept {
+            held("replay_swept", &swept);
+        }
+    }
 }
 
 /// The state before each such call of a trace.
@@ -85,6 +121,7 @@ fn befores(trace: &[u8], call: Call) -> Vec<State> {
 #[test]
 fn each_step_of_the_corners_is_made_by_sweeps() {
     let Corners { trace, swept, .. } = corners::corners();
+    let swept = swept.expect("a trace apart");
     let steps = befores(&trace.bytes, Call::Step);
     let [here, apart] = [&trace, &swept].map(|t| befores(&t.bytes, Call::StepBySweeps));
     println!(
@@ -102,14 +139,24 @@ fn each_step_of_the_corners_is_made_by_sweeps() {
     // What is left begins at the states with a field at a boundary, each once.
     let states = [cutter_variations::boundaries(), cutter_variations::drawing_variations()];
     assert_eq!(both.len(), states.iter().map(Vec::len).sum());
+
+    let mut pairs = Pairs::default();
+    let closings = corners::closings().trace;
+    replay_seen(closings.bytes.as_slice(), |seen| pairs.see(&seen)).expect("in memory");
+    println!("{} steps of closings, each by sweeps right behind it", pairs.number);
+    assert!(pairs.last.is_none() && pairs.number > 30, "{} steps", pairs.number);
 }
 
 #[test]
 fn the_corners_are_what_their_names_say() {
-    let corners = corners::corners();
+    let all = corners::all();
     // The first call of each corner stands behind its entry 0.
     let first = |name: &str| {
-        let (entry, _) = corners.names.iter().find(|(_, n)| n == name).expect(name);
+        let found = all.iter().find_map(|(_, corners)| {
+            let named = corners.names.iter().find(|(_, n)| n == name);
+            named.map(|(entry, _)| (corners, *entry))
+        });
+        let (corners, entry) = found.expect(name);
         let mut found = None;
         let see = |seen: Seen| {
             if seen.entry == entry + 1 {
@@ -151,7 +198,8 @@ fn the_corners_are_what_their_names_say() {
     for name in ["gravity", "creatures", "the step"] {
         for mark in [0, 4_294_967_000, u32::MAX] {
             let start = format!("nearest readings of {name} from mark {mark}");
-            let number = corners.names.iter().filter(|(_, n)| n.starts_with(&start)).count();
+            let names = all.iter().flat_map(|(_, corners)| &corners.names);
+            let number = names.filter(|(_, n)| n.starts_with(&start)).count();
             assert_eq!(number, if name == "creatures" { 4 } else { 2 }, "{start}");
         }
     }
@@ -254,13 +302,19 @@ impl Tally {
 
     fn see_cutter(&mut self, seen: &Seen, before: &Cutter, after: &Cutter) {
         match seen.call {
-            Call::Step if before.trailing && !after.trailing => self.see_closing(before, after),
+            Call::Step if before.trailing && !after.trailing => {
+                self.see_closing(before, after);
+                assert_eq!(costs(seen), counted::step_player(before));
+            }
             Call::StepBySweeps if before.trailing && !after.trailing => {
                 self.swept += 1;
                 closed_by_sweeps(before, after);
             }
             Call::StepEnemies => self.breaches += usize::from(!before.dead && after.dead),
-            Call::Respawn => self.respawns += 1,
+            Call::Respawn => {
+                self.respawns += 1;
+                assert_eq!(costs(seen), counted::respawn(before));
+            }
             Call::CutterPass { .. } => {
                 self.overs += usize::from(seen.outcome.answer == Answer::Over);
                 self.respawns += usize::from(before.dead && !after.dead && after.lives > 0);
@@ -281,6 +335,12 @@ impl Tally {
         let as_good = regions.iter().take(48).filter(|region| Some(key(region)) == best);
         self.ties += usize::from(as_good.count() > 1);
     }
+}
+
+/// Cells searched and walked, as a result has them.
+fn costs(seen: &Seen) -> (usize, usize) {
+    let &[a, b, c, d] = seen.outcome.result.as_slice() else { panic!("two numbers of two bytes") };
+    (u16::from_le_bytes([a, b]).into(), u16::from_le_bytes([c, d]).into())
 }
 
 /// Document 01's closing, found by sweeps: the same grid, the same creatures in the same order.
@@ -318,4 +378,21 @@ fn random_traces_are_wide_and_well_formed() {
     assert!([levels, overs, breaches].iter().all(|&n| n > 20), "{tally:?}");
     assert!(tally.swept == closings && pairs.last.is_none() && pairs.number > 5_000, "{tally:?}");
     assert!(refusals.iter().all(|&n| n > 20), "{tally:?}");
+}
+
+/// The entries that a program's first lines tell of are where corners begin.
+#[test]
+fn the_entries_told_begin_corners() {
+    for (program, corners) in corners::all() {
+        let text = fs::read_to_string(format!("../crates/{program}/src/main.rt")).expect(program);
+        let lines =
+            text.lines().filter_map(|line| line.strip_prefix("//")?.trim().split_once("  "));
+        let told: Vec<usize> = lines.filter_map(|(entry, _)| entry.parse().ok()).collect();
+        assert!(told.len() > 9, "{program}: {told:?}");
+        for entry in told {
+            assert!(corners.names.iter().any(|&(begins, _)| begins == entry), "{program}: {entry}");
+        }
+        let number = format!(" {} corners", corners.names.len());
+        assert!(text.contains(&number), "{program}:{number}");
+    }
 }

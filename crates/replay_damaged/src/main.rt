@@ -1,7 +1,7 @@
 // Replays a trace from standard input as `replay` does, and tells each difference.
 //
 // stdin: what the oracle's `trace_oracle damaged PART` writes for refusal, answer, state, record,
-// result and frame, one after the other: seven entries each, with one wrong byte. stdout: what
+// result, frame and cost, one after the other: seven entries each, with one wrong byte. stdout: what
 // `replay_oracle --each` tells of it. A wrong byte of a state or a record shows in a later entry
 // too, which goes on from it.
 fn main() {

@@ -17,5 +17,9 @@ fn main() -> io::Result<ExitCode> {
         replay(input)?
     };
     print!("{report}");
-    Ok(if report.entries != 0 && report.differ == 0 { ExitCode::SUCCESS } else { ExitCode::FAILURE })
+    Ok(if report.entries != 0 && report.differ == 0 {
+        ExitCode::SUCCESS
+    } else {
+        ExitCode::FAILURE
+    })
 }

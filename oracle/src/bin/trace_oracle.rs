@@ -6,8 +6,9 @@ use oracle::make::damage::damaged;
 use oracle::make::{corners, sequences};
 use oracle::trace::Trace;
 
-const USAGE: &str = "usage: trace_oracle SEED SEQUENCES | corners | corners-list | swept | edges | \
-                     damaged refusal|answer|state|record|result|frame";
+const USAGE: &str = "usage: trace_oracle SEED SEQUENCES | corners | closings | swept | \
+                     corners-list | edges | \
+                     damaged refusal|answer|state|record|result|frame|cost";
 
 fn main() -> io::Result<()> {
     let words: Vec<String> = std::env::args().skip(1).collect();
@@ -16,12 +17,16 @@ fn main() -> io::Result<()> {
     let trace = match words.as_slice() {
         ["corners"] => corners::corners().trace,
         ["corners-list"] => {
-            for (entry, name) in corners::corners().names {
-                writeln!(out, "{entry:5} {name}")?;
+            for (program, corners) in corners::all() {
+                writeln!(out, "{program}")?;
+                for (entry, name) in corners.names {
+                    writeln!(out, "{entry:5} {name}")?;
+                }
             }
             return Ok(());
         }
-        ["swept"] => corners::corners().swept,
+        ["closings"] => corners::closings().trace,
+        ["swept"] => corners::corners().swept.expect("a trace apart"),
         ["edges"] => corners::edges(),
         ["damaged", part] => {
             let (bytes, entry, byte) = damaged(part).ok_or(io::Error::other(USAGE))?;

@@ -1,10 +1,10 @@
-//! The corners: a short trace with every call, every refusal and every case that was ever
-//! in doubt, each under a name.
+//! The corners: short traces with every call, every refusal and every case that was ever in
+//! doubt, each under a name. A program of the gate replays each trace.
 
 use super::variations::{FINE, Variation, causes};
 use super::{
-    BAD_FRAMES, battery, cutter_corners, cutter_variations, mine_corners, mine_variations,
-    question_corners, sequences,
+    BAD_FRAMES, battery, closing_corners, cutter_corners, cutter_variations, mine_corners,
+    mine_variations, question_corners, sequences,
 };
 use crate::calls::Call;
 use crate::check::{CELLS_BAD, CREATURES_BAD, LAST_LEVEL, NUMBERS_BAD, PLAYER_BAD};
@@ -21,16 +21,22 @@ const BAD_COMMAND: u8 = 4;
 /// A trace with a name for each stretch of it.
 pub struct Corners {
     pub trace: Trace,
-    /// The steps of it that change the state, made by sweeps, and one by sweeps from each state with
-    /// a field at a boundary.
-    pub swept: Trace,
+    /// Where not in the trace itself: the steps of it that change the state, made by sweeps, and
+    /// one by sweeps from each state with a field at a boundary.
+    pub swept: Option<Trace>,
     /// The first entry of each corner, and its name.
     pub names: Vec<(usize, String)>,
 }
 
 impl Corners {
-    fn new() -> Self {
-        Corners { trace: sequences::start(), swept: sequences::start(), names: Vec::new() }
+    /// Each step has its step by sweeps behind it.
+    fn both_ways() -> Self {
+        Corners { trace: sequences::start(), swept: None, names: Vec::new() }
+    }
+
+    /// Steps by sweeps that change the state are in a trace of their own.
+    fn swept_apart() -> Self {
+        Corners { swept: Some(sequences::start()), ..Self::both_ways() }
     }
 
     /// Calls from this state and record.
@@ -58,24 +64,37 @@ impl Corners {
         }
     }
 
-    /// The step just made, by sweeps: here where it changed nothing, else in the trace of its own,
-    /// since each state takes 2 KB.
+    /// The step just made, by sweeps: a state that changes takes 4 KB more.
     fn by_sweeps(&mut self, before: State) {
-        let trace = if *self.trace.state() == before { &mut self.trace } else { &mut self.swept };
-        trace.by_sweeps(before);
+        let changed = *self.trace.state() != before;
+        let apart = self.swept.as_mut().filter(|_| changed);
+        apart.unwrap_or(&mut self.trace).by_sweeps(before);
     }
 }
 
-/// All of it.
+/// The programs that replay corners, each with its own. One of [`corners`]' traces is for another
+/// program, `replay_swept`.
+pub fn all() -> [(&'static str, Corners); 2] {
+    [("replay", corners()), ("replay_closings", closings())]
+}
+
+/// All but those of closings and walks.
 pub fn corners() -> Corners {
-    let mut out = Corners::new();
+    let mut out = Corners::swept_apart();
     mine_corners::corners(&mut out);
     cutter_corners::corners(&mut out);
     common(&mut out);
     question_corners::corners(&mut out);
     mine_boundaries(&mut out);
     cutter_boundaries(&mut out);
-    cutter_edges(&mut out);
+    cutter_edges(out.swept.as_mut().expect("a trace apart"));
+    out
+}
+
+/// Closings and walks.
+pub fn closings() -> Corners {
+    let mut out = Corners::both_ways();
+    closing_corners::corners(&mut out);
     out
 }
 
@@ -135,10 +154,15 @@ fn mine_boundaries(out: &mut Corners) {
         let name = format!("Mine order: {} and {}", one.name, two.name);
         out.mine(&name, &m, battery::mine(&pace, if i == 0 { PICTURE } else { SMALL }));
     }
-    let fine: Vec<_> =
-        mine_variations::boundaries().into_iter().filter(|v| v.refusal == FINE).collect();
-    for (name, m) in varied(mine_variations::base, &fine) {
-        out.mine(&format!("Mine accepted: {name}"), &m, vec![Call::Move(BAD_COMMAND)]);
+    let mut fine: Vec<Mine> = Vec::new();
+    for v in mine_variations::boundaries().into_iter().filter(|v| v.refusal == FINE) {
+        let mut m = mine_variations::base();
+        v.apply(&mut m);
+        // Some values are those of the base.
+        if !fine.contains(&m) {
+            out.mine(&format!("Mine accepted: {}", v.name), &m, vec![Call::Move(BAD_COMMAND)]);
+            fine.push(m);
+        }
     }
 }
 
@@ -161,12 +185,12 @@ fn cutter_boundaries(out: &mut Corners) {
 }
 
 /// Every variation with a step by sweeps, in the trace of those: a state of Cutter takes 2 KB.
-fn cutter_edges(out: &mut Corners) {
+fn cutter_edges(swept: &mut Trace) {
     let base = cutter_variations::boundaries();
     let drawing = cutter_variations::drawing_variations();
     let on_base = varied(cutter_variations::base, &base);
     for (_, c) in on_base.chain(varied(cutter_variations::drawing, &drawing)) {
-        out.swept.by_sweeps(State { game: Game::Cutter(Box::new(c)), pace: Pace::default() });
+        swept.by_sweeps(State { game: Game::Cutter(Box::new(c)), pace: Pace::default() });
     }
 }
 

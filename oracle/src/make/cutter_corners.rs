@@ -1,4 +1,4 @@
-//! The corners of Block Cutter.
+//! The corners of Block Cutter, but for closings and walks.
 
 use super::corners::{Corners, PICTURE};
 use super::cutter_grounds::*;
@@ -16,9 +16,6 @@ pub fn corners(out: &mut Corners) {
     steps(out);
     along_the_border(out);
     flags(out);
-    closings(out);
-    walks(out);
-    regions(out);
     creatures(out);
     wins(out);
     both_ticks(out);
@@ -29,11 +26,11 @@ pub fn corners(out: &mut Corners) {
     pictures(out);
 }
 
-fn step(times: usize) -> Vec<Call> {
+pub(super) fn step(times: usize) -> Vec<Call> {
     vec![Call::Step; times]
 }
 
-fn pass(time: u32, keys: &[u8], draws: usize) -> Call {
+pub(super) fn pass(time: u32, keys: &[u8], draws: usize) -> Call {
     Call::CutterPass { time, keys: keys.to_vec(), draws: vec![1; draws] }
 }
 
@@ -97,87 +94,11 @@ fn along_the_border(out: &mut Corners) {
     out.cutter("round one black cell, from away from black and back", &c, passes);
 }
 
-/// One step before a closing at (32,15) in the middle of claimed ground, around which black lies four
-/// steps away above and below, and to the left and to the right where told so.
-fn hemmed(left: bool, right: bool) -> Cutter {
-    let mut c = fresh().claimed(1..63, 1..31).peopled(&[]);
-    let far = if right { 37 } else { 45 };
-    for x in 27..=far {
-        c = c.black(x, 10).black(x, 20);
-    }
-    for y in 11..20 {
-        c = c.black(far, y);
-        if left {
-            c = c.black(27, y);
-        }
-    }
-    c.line(&[(32, 14)]).at((32, 14)).heading(DOWN)
-}
-
-/// Which of two cells as near the walk to the border takes: left before right before up before down.
-fn walks(out: &mut Corners) {
-    for (name, left, right) in [
-        ("as near on all sides: left", true, true),
-        ("as near to the right, above and below: right", false, true),
-        ("as near above and below: up", false, false),
-    ] {
-        out.cutter(name, &hemmed(left, right), step(1));
-    }
-    let shut = fresh().claimed(31..34, 1..2).line(&[(32, 1)]).at((32, 1)).heading(RIGHT);
-    out.cutter("respawn beside what was line: no walk", &shut, vec![Call::Respawn]);
-}
-
 /// Flags that no call but a pass changes.
 fn flags(out: &mut Corners) {
     let c = Cutter { dead: true, won_level: true, lives: 0, ..drawing(4) };
     let calls = vec![Call::Step, Call::StepEnemies, Call::Respawn];
     out.cutter("a dead and won state steps, ticks and respawns", &c, calls);
-}
-
-fn closings(out: &mut Corners) {
-    let (left, right) = ((10, 10, 1, 1), (50, 10, -1, 1));
-    out.cutter("P9: keeps the left", &drawing(30).peopled(&[left]), step(2));
-    out.cutter("P10: keeps the right", &drawing(30).peopled(&[right]), step(1));
-    out.cutter("P11: one on each, the larger", &drawing(30).peopled(&[right, left]), step(1));
-    let three = [right, left, right, left, right];
-    out.cutter("most creatures, in order", &drawing(30).peopled(&three), step(1));
-    out.cutter("no creature: the larger", &drawing(30).peopled(&[]), step(1));
-    let tied = drawing(30).claimed(1..2, 1..31);
-    out.cutter("a tie: the earlier", &tied.clone().peopled(&[]), step(1));
-    out.cutter("a tie with creatures", &tied.peopled(&[(50, 9, 1, 1), (9, 9, 1, 1)]), step(1));
-    let back = drawing(1).heading(UP);
-    out.cutter("a line of one cell", &back, step(2));
-    let cells = [(32, 1), (32, 2), (33, 2), (34, 2), (34, 1), (33, 1)];
-    let ring = fresh().line(&cells).at((33, 1)).heading(UP);
-    out.cutter("the shortest walk on closing", &ring, step(2));
-    let pocket = fresh().claimed(31..34, 1..2).at((31, 0));
-    out.cutter("the shortest walk on respawn", &pocket, vec![Call::Respawn]);
-    let far = fresh().claimed(1..60, 1..30).at((0, 30)).peopled(&[]);
-    out.cutter("a long walk on respawn", &far, vec![Call::Respawn]);
-    let mut last = fresh().claimed(1..63, 1..31).peopled(&[]);
-    out.cutter("respawn where no black is left", &last, vec![Call::Respawn]);
-    last = last.line(&[(32, 1)]).at((32, 1)).heading(UP);
-    out.cutter("the last cut: no black left, no walk", &last, step(2));
-}
-
-fn regions(out: &mut Corners) {
-    for number in [48, 49] {
-        let name = format!("{number} regions of one cell");
-        out.cutter(&name, &chequers(number), step(1));
-        let last = chequers(number).peopled_in_order(number);
-        let name = format!("{name}, the last with creatures");
-        out.cutter(&name, &last, step(1));
-    }
-    out.cutter("one region of one cell", &chequers(1), step(1));
-    out.cutter("a chequerboard: 930 regions", &chequerboard(), step(1));
-    out.cutter("a snake across: 429 sweeps", &snake(false), step(1));
-    out.cutter("a snake upright: 407 sweeps", &snake(true), step(1));
-    out.cutter("the longest snake found: 596 sweeps", &longest_snake(), step(1));
-    let pockets = zigzagged(3);
-    out.cutter("a zigzag of 63 pockets, the large region uncounted", &pockets, step(1));
-    let c = pockets.peopled(&[(10, 10, 1, 1), (2, 1, 1, 1), (5, 1, 1, 1), (2, 1, -1, 1)]);
-    out.cutter("the same with creatures in pockets", &c, step(1));
-    out.cutter("a zigzag of 42 pockets, all counted", &zigzagged(2), step(1));
 }
 
 fn creatures(out: &mut Corners) {

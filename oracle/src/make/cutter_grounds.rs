@@ -17,13 +17,16 @@ pub fn drawing(length: usize) -> Cutter {
     fresh().line(&cells).at((32, length)).heading(DOWN)
 }
 
+/// No creature, and all claimed but these cells.
+pub fn claimed_but(black: &[(usize, usize)]) -> Cutter {
+    let claimed = fresh().claimed(1..CW - 1, 1..CH - 1).peopled(&[]);
+    black.iter().fold(claimed, |c, &(x, y)| c.black(x, y))
+}
+
 /// One step before a closing that leaves so many regions of one cell, row by row.
 pub fn chequers(number: usize) -> Cutter {
-    let mut c = fresh().claimed(1..63, 1..31).peopled(&[]);
-    for i in 0..number {
-        c = c.black(2 + 2 * (i % 30), 3 + 2 * (i / 30));
-    }
-    c.line(&[(32, 1)]).at((32, 1)).heading(UP)
+    let cells: Vec<_> = (0..number).map(|i| (2 + 2 * (i % 30), 3 + 2 * (i / 30))).collect();
+    claimed_but(&cells).line(&[(32, 1)]).at((32, 1)).heading(UP)
 }
 
 /// One step before a closing that leaves 930 regions, each black cell one.

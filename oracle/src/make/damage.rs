@@ -6,15 +6,18 @@ use crate::calls::Call;
 use crate::stand_ins::catcard_app::screen::FRAME;
 use crate::state::State;
 
-pub const PARTS: [&str; 6] = ["refusal", "answer", "state", "record", "result", "frame"];
+pub const PARTS: [&str; 7] = ["refusal", "answer", "state", "record", "result", "frame", "cost"];
 
 const HEADER: usize = 12;
 const REFUSAL: usize = 1;
 const ANSWER: usize = 2;
 const RECORD: usize = 8;
-/// A pass's arguments: a reading and one key; a picture's: a length.
+/// A pass's arguments: a reading and one key, in Cutter with their number; a picture's: a length.
 const PASS: usize = HEADER + 5;
+const CUTTER_PASS: usize = HEADER + 7;
 const PICTURE: usize = HEADER + 2;
+/// Behind the cells that were searched come those that were walked.
+const WALKED: usize = 2;
 
 /// The trace, and the entry and the byte that are wrong; `None` for an unknown part.
 pub fn damaged(part: &str) -> Option<(Vec<u8>, usize, usize)> {
@@ -39,6 +42,7 @@ pub fn damaged(part: &str) -> Option<(Vec<u8>, usize, usize)> {
         "record" => (2, PASS + State::MINE_BYTES - RECORD),
         "result" => (6, HEADER),
         "frame" => (3, PICTURE + FRAME - 1),
+        "cost" => (5, CUTTER_PASS + State::CUTTER_BYTES + WALKED),
         _ => return None,
     };
     let wrong = starts[entry] + byte;
