@@ -43,6 +43,8 @@ static void gave_mine(sumbadger_mine_answer a) {
 static void gave_cutter(sumbadger_cutter_answer a) {
     cutter = a.game;
     put_number(a.refusal);
+    put_number(a.searched);
+    put_number(a.walked);
     put_cutter(&cutter);
 }
 
@@ -160,6 +162,8 @@ static void play_cutter(const line *l) {
         marks = p.marks;
         put_number(p.refusal);
         put_number(p.answer);
+        put_number(p.searched);
+        put_number(p.walked);
         gave_marks();
         put_cutter(&cutter);
     } else if (is(l, "cutter_render")) {

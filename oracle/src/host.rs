@@ -7,6 +7,7 @@ use std::fmt::Write;
 use crate::bytes::Field;
 use crate::calls::{Call, Outcome, page};
 use crate::check::{self, CELLS_BAD, NUMBERS_BAD, Refusal, ensure};
+use crate::costs::Cost;
 use crate::lines::text;
 use crate::state::{Cutter, Game, Mine, Pace, State};
 
@@ -67,6 +68,7 @@ fn play(state: &mut State, name: &str, n: &Numbers, out: &mut String) {
         Call::Load => put_state(out, after),
         Call::MinePass { .. } | Call::CutterPass { .. } => {
             put(out, &[u32::from(outcome.refusal), outcome.answer as u32]);
+            put_cost(out, after, &outcome);
             put(out, &[after.pace.first, after.pace.second]);
             put_state(out, after);
         }
@@ -84,8 +86,17 @@ fn play(state: &mut State, name: &str, n: &Numbers, out: &mut String) {
         }
         _ => {
             put(out, &[outcome.refusal]);
+            put_cost(out, after, &outcome);
             put_state(out, after);
         }
+    }
+}
+
+/// Of Block Cutter: cells searched and walked, zeros for a call that has no such search.
+fn put_cost(out: &mut String, state: &State, outcome: &Outcome) {
+    if let Game::Cutter(_) = state.game {
+        let Cost { searched, walked } = Cost::take(&mut &outcome.result[..]).unwrap_or_default();
+        put(out, &[searched, walked]);
     }
 }
 
