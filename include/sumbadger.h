@@ -180,14 +180,21 @@ typedef struct {
     unsigned char won_level; /* flag */
 } sumbadger_cutter;
 
+/* How many cells were taken by the search of a step's closing, at most 1,860, and by the walk to the border, at most 2,048. Zero for a call without
+   that search or walk, where refused, where the player was beside black already; a step by sweeps has no search. */
 typedef struct {
     unsigned char refusal;
+    unsigned short searched;
+    unsigned short walked;
     sumbadger_cutter game;
 } sumbadger_cutter_answer;
 
+/* Those of the pass's step, or of its respawn. */
 typedef struct {
     unsigned char refusal;
     unsigned char answer;
+    unsigned short searched;
+    unsigned short walked;
     sumbadger_marks marks;
     sumbadger_cutter game;
 } sumbadger_cutter_passed;

@@ -1,9 +1,9 @@
--- What the search of a step's closing costs. What its walk costs stands with where it ends (Nearest.antt).
+-- What the search and the walk of a step cost. Which cells the walk takes stands with where it ends (Nearest.antt).
 use mathlib.Core.Bool.{true, false}
 use mathlib.Core.List.{List}
 use mathlib.Core.Path.{_≡_}
 use Prim.Native.Nat.{ℕ, _≤_}
-use Rattle.cutter_ground.specs.Cells.{INNER}
+use Rattle.cutter_ground.specs.Cells.{CN, INNER}
 use Rattle.cutter_joined.proofs.Labels.{labels}
 use Rattle.cutter_closing.specs.Counted.{MAX-COMP, counted}
 use Rattle.cutter_closing.specs.Closing.{claimLine}
@@ -22,5 +22,7 @@ pub record CostKept : Type 0 where
   pub searched : (c : Cutter) → closes c ≡ true → stepSearched c ≡ cellsOf (regionsOf c) (counted MAX-COMP (regionsOf c))
   -- never above 1,860
   pub most : (c : Cutter) → WellFormed c → stepSearched c ≤ INNER
+  -- and the walk after it never above 2,048
+  pub walked : (c : Cutter) → WellFormed c → stepWalked c ≤ CN
   -- zero where the step closes nothing
   pub none : (c : Cutter) → closes c ≡ false → (stepSearched c ≡ 0) × (stepWalked c ≡ 0)

@@ -4,3 +4,4 @@ pub mod Kept
 pub mod Accounts
 pub mod Answers
 pub mod Cases
+pub mod Cost

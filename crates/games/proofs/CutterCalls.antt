@@ -16,7 +16,8 @@ use Rattle.cutter_state.specs.Change.{withLevel, withLives}
 use Rattle.cutter_state.specs.WellFormed.{MAX-LIVES, WellFormed, refusalOf}
 use Rattle.cutter_state.proofs.Facts.{accepted, from-facts, well-formed-none}
 use Rattle.cutter_rules.specs.Level.{creaturesOf, drawsOk, freshLevel}
-use Rattle.cutter_rules.specs.Step.{directed, stepped, respawned}
+use Rattle.cutter_rules.specs.Step.{directed}
+use Rattle.cutter_rules.specs.Cost.{stepMade, respawnMade}
 use Rattle.cutter_rules.specs.Tick.{enemiesStepped}
 use Rattle.cutter_keeps.specs.Kept.{Kept, Fresh}
 use Rattle.cutter_keeps.specs.Steps.{stepClaims, stepLoses, Accounts}
@@ -32,7 +33,7 @@ use Rattle.cutter_pass.specs.Accounts.{passClaims, passLoses}
 use Rattle.cutter_pass.proofs.Refused.{pass-state, pass-level}
 use Rattle.cutter_pass.proofs.Accounts.{pass-accounts, pass-fresh, pass-formed}
 use Rattle.cutter.specs.declared.calls.CutterAnswer.{CutterAnswer}
-use Rattle.cutter.specs.Calls.{refused, answered, zeros, FIRST-LEVEL, roundCall, levelCall, directionCall, stepCall, sweepsCall, enemiesCall, respawnCall}
+use Rattle.cutter.specs.Calls.{refused, made, answered, zeros, FIRST-LEVEL, roundCall, levelCall, directionCall, stepCall, sweepsCall, enemiesCall, respawnCall}
 use Rattle.games.proofs.Engines.{sweeps-call}
 use Rattle.games.specs.CutterAccounts.{Formed}
 use Rattle.controls.specs.Keys.{LEFT}
@@ -84,12 +85,12 @@ module _ (c : Cutter) (w : WellFormed c) where
       (λ _. direction-kept c dir w)
 
   -- a call that only the state can have refused
-  plays : (s : Cutter) → refusedOr (refusalOf c) (refused c) (answered s) ≡ answered s
-  plays s = answered-by (refused c) (answered s) (refusalOf c) (well-formed-none c (from-facts c w))
+  plays : (a : CutterAnswer) → refusedOr (refusalOf c) (refused c) a ≡ a
+  plays a = answered-by (refused c) a (refusalOf c) (well-formed-none c (from-facts c w))
 
-  pub step-plays : stepCall c ≡ answered (stepped c)
+  pub step-plays : stepCall c ≡ made (stepMade c)
   unfolding stepCall
-  step-plays = plays (stepped c)
+  step-plays = plays (made (stepMade c))
 
   pub direction-plays : (dir : ℕ) → leb dir LEFT ≡ true → directionCall c dir ≡ answered (directed c dir)
   unfolding directionCall
@@ -97,27 +98,25 @@ module _ (c : Cutter) (w : WellFormed c) where
       answered-by (refused c) (answered (directed c dir)) (refusalOf c then unless (leb dir LEFT) COMMAND) (rw (well-formed-none c (from-facts c w), e))
 
   pub step-called : Accounts c (stepCall c .game) (stepClaims c) (stepLoses c)
-  unfolding stepCall
-  step-called = subst (λ (a : CutterAnswer). Accounts c (a .game) (stepClaims c) (stepLoses c)) (sym (plays (stepped c))) (step-accounts c w)
+  step-called = subst (λ (a : CutterAnswer). Accounts c (a .game) (stepClaims c) (stepLoses c)) (sym step-plays) (step-accounts c w)
 
   -- as the accounts count it
   abbrev Counted : CutterAnswer → Type 0
   Counted a = Accounts c (a .game) (cond (eqb (a .refusal) NONE) (stepClaims c) 0) (cond (eqb (a .refusal) NONE) (stepLoses c) 0)
 
   pub step-counted : Counted (stepCall c)
-  unfolding stepCall
-  step-counted = subst Counted (sym (plays (stepped c))) (step-accounts c w)
+  step-counted = subst Counted (sym step-plays) (step-accounts c w)
 
   pub sweeps-counted : Counted (sweepsCall c)
   sweeps-counted = subst Counted (sym (sweeps-call c)) step-counted
 
   pub tick-called : Kept c (enemiesCall c .game)
   unfolding enemiesCall
-  tick-called = subst (λ (a : CutterAnswer). Kept c (a .game)) (sym (plays (enemiesStepped c))) (tick-kept c w)
+  tick-called = subst (λ (a : CutterAnswer). Kept c (a .game)) (sym (plays (answered (enemiesStepped c)))) (tick-kept c w)
 
   pub respawn-called : Accounts c (respawnCall c .game) 0 0
   unfolding respawnCall
-  respawn-called = subst (λ (a : CutterAnswer). Accounts c (a .game) 0 0) (sym (plays (respawned c))) (erased-accounts (respawn-erased c w))
+  respawn-called = subst (λ (a : CutterAnswer). Accounts c (a .game) 0 0) (sym (plays (made (respawnMade c)))) (erased-accounts (respawn-erased c w))
 
 -- ---- the pass
 
@@ -174,28 +173,28 @@ module _ (c : Cutter) (keys draws : List ℕ) (time first second : ℕ) where
 
 -- ---- an answered state is well formed
 
--- a call that answers with s where the number n is none
-call-formed : (c s : Cutter) (n : ℕ) → (n ≡ NONE → WellFormed s) → Formed (refusedOr n (refused c) (answered s))
-call-formed c s n f = refused-or-answered (refused c) (answered s) Formed n (λ some none. absurd (some none)) (λ e _. f e)
+-- a call that answers with a where the number n is none
+call-formed : (c : Cutter) (a : CutterAnswer) (n : ℕ) → (n ≡ NONE → WellFormed (a .game)) → Formed (refusedOr n (refused c) a)
+call-formed c a n f = refused-or-answered (refused c) a Formed n (λ some none. absurd (some none)) (λ e _. f e)
 
 module _ (c : Cutter) where
   pub direction-formed : (dir : ℕ) → Formed (directionCall c dir)
   unfolding directionCall
   direction-formed dir =
       let no : ℕ = unless (leb dir LEFT) COMMAND in
-      call-formed c (directed c dir) (refusalOf c then no) (λ e. direction-kept c dir (accepted c (then-none (refusalOf c) no e .0)) .formed)
+      call-formed c (answered (directed c dir)) (refusalOf c then no) (λ e. direction-kept c dir (accepted c (then-none (refusalOf c) no e .0)) .formed)
 
   pub step-formed : Formed (stepCall c)
   unfolding stepCall
-  step-formed = call-formed c (stepped c) (refusalOf c) (λ e. step-accounts c (accepted c e) .formed)
+  step-formed = call-formed c (made (stepMade c)) (refusalOf c) (λ e. step-accounts c (accepted c e) .formed)
 
   pub sweeps-formed : Formed (sweepsCall c)
   sweeps-formed = subst Formed (sym (sweeps-call c)) step-formed
 
   pub tick-formed : Formed (enemiesCall c)
   unfolding enemiesCall
-  tick-formed = call-formed c (enemiesStepped c) (refusalOf c) (λ e. tick-kept c (accepted c e) .formed)
+  tick-formed = call-formed c (answered (enemiesStepped c)) (refusalOf c) (λ e. tick-kept c (accepted c e) .formed)
 
   pub respawn-formed : Formed (respawnCall c)
   unfolding respawnCall
-  respawn-formed = call-formed c (respawned c) (refusalOf c) (λ e. respawn-erased c (accepted c e) .formed)
+  respawn-formed = call-formed c (made (respawnMade c)) (refusalOf c) (λ e. respawn-erased c (accepted c e) .formed)

@@ -1,5 +1,5 @@
 -- Both engines close a cut alike. Assumes nothing.
-use mathlib.Core.Path.{_≡_, refl, sym, ap, _∙_}
+use mathlib.Core.Path.{_≡_, _∙_}
 use Rattle.refusal.proofs.Calls.{refused-by, answered-by, refused-or-answered}
 use Rattle.cutter_sweeps.proofs.Low.{sweeps-settle}
 use Rattle.cutter_closing.specs.Closing.{claimLine}
@@ -8,19 +8,19 @@ use Rattle.cutter_state.specs.declared.Cutter.{Cutter}
 use Rattle.cutter_state.specs.State.{creatures}
 use Rattle.cutter_state.specs.WellFormed.{refusalOf}
 use Rattle.cutter_state.proofs.Facts.{accepted}
-use Rattle.cutter_rules.specs.Step.{stepped}
-use Rattle.cutter_keeps.proofs.Sweeps.{swept-closed, swept-step}
+use Rattle.cutter_keeps.proofs.Sweeps.{swept-closed, swept-step, swept-walked}
 use Rattle.cutter.specs.declared.calls.CutterAnswer.{CutterAnswer}
-use Rattle.cutter.specs.Calls.{refused, answered, stepCall, sweepsCall}
-use Rattle.games.specs.Engines.{Engines}
-use Rattle.cutter_rules.specs.Sweeps.{sweptStep}
+use Rattle.cutter.specs.Calls.{refused, made, stepCall, sweepsCall}
+use Rattle.games.specs.Engines.{unsearched, Engines}
+use Rattle.cutter_rules.specs.Cost.{stepMade, sweptMade}
 
-pub sweeps-call : (c : Cutter) → sweepsCall c ≡ stepCall c
+pub sweeps-call : (c : Cutter) → sweepsCall c ≡ unsearched (stepCall c)
 unfolding sweepsCall stepCall
 sweeps-call c =
-    refused-or-answered (refused c) (answered (stepped c)) (λ (a : CutterAnswer). sweepsCall c ≡ a) (refusalOf c)
-    (λ some. refused-by (refused c) (answered (sweptStep c)) (refusalOf c) some)
-    (λ none. answered-by (refused c) (answered (sweptStep c)) (refusalOf c) none ∙ ap answered (swept-step c (accepted c none .cells)))
+    refused-or-answered (refused c) (made (stepMade c)) (λ (a : CutterAnswer). sweepsCall c ≡ unsearched a) (refusalOf c)
+    (λ some. refused-by (refused c) (made (sweptMade c)) (refusalOf c) some)
+    (λ none. let long = accepted c none .cells in
+    answered-by (refused c) (made (sweptMade c)) (refusalOf c) none ∙ rw (swept-step c long, swept-walked c long))
 
 pub engines : Engines
 engines =

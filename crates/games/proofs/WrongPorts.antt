@@ -21,6 +21,7 @@ use Rattle.cutter_state.specs.declared.Cutter.{Cutter}
 use Rattle.cutter_state.specs.WellFormed as WF
 use Rattle.cutter_rules.specs.Ahead.{along}
 use Rattle.cutter_rules.specs.Level.{freshGrid, freshLevel, atStart, drawnMover, inRange, drawsOk}
+use Rattle.cutter_rules.specs.Cost.{stepMade}
 use Rattle.cutter_rules.specs.Step.{unitX, unitY, directed, stepped, met as meets, trailingStep, walkingStep}
 use Rattle.cutter_keeps.proofs.Direction.{direction-kept}
 use Rattle.cutter_keeps.proofs.Accounts.{step-accounts}
@@ -109,10 +110,10 @@ down-formed : WF.WellFormed down
 down-formed = direction-kept (roundCall one .game) DOWN (round-fresh one one-goes .formed) .formed
 
 module _ (port : Cutter → CutterAnswer) (kept : (c : Cutter) → port c ≡ stepCall c) where
-  first-step : port down ≡ C.answered (stepped down)
+  first-step : port down ≡ C.made (stepMade down)
   first-step = kept down ∙ step-plays down down-formed
 
-  second-step : port (stepped down) ≡ C.answered (stepped (stepped down))
+  second-step : port (stepped down) ≡ C.made (stepMade (stepped down))
   second-step = kept (stepped down) ∙ step-plays (stepped down) (step-accounts down down-formed .formed)
 
   row : {a b : Cutter} → a ≡ b → a .py ≡ b .py

@@ -27,19 +27,19 @@ ghost use Rattle.host.specs.Cutter.{answerOut, turnOut, hosted, hostedPa
 #[repr(C)]
 pub struct HostCutterAnswer {
     pub refusal: Refusal,
-    pub game: HostCutter,
     pub searched: u16,
     pub walked: u16,
+    pub game: HostCutter,
 }
 
 #[repr(C)]
 pub struct HostCutterPassed {
     pub refusal: Refusal,
     pub answer: u8,
-    pub marks: Pace,
-    pub game: HostCutter,
     pub searched: u16,
     pub walked: u16,
+    pub marks: Pace,
+    pub game: HostCutter,
 }
 
 // The list of a question: the first `count` of these, all of them where it is more.
@@ -55,9 +55,9 @@ fn answer_out(a: CutterAnswer) -> HostCutterAnswer
     let game = a.game;
     HostCutterAnswer {
         refusal: a.refusal,
-        game: cutter_host(game),
         searched: a.searched,
         walked: a.walked,
+        game: cutter_host(game),
     }
 }
 
@@ -74,10 +74,10 @@ fn turn_out(t: CutterTurn) -> HostCutterPassed
     HostCutterPassed {
         refusal: passed.refusal,
         answer: answer::number(said),
-        marks: marks,
-        game: cutter_host(game),
         searched: passed.searched,
         walked: passed.walked,
+        marks: marks,
+        game: cutter_host(game),
     }
 }
 
@@ -98,9 +98,9 @@ pub extern "C" fn sumbadger_cutter_new_level(h: HostCutter, draws: &[u8]) -> Hos
     if no != refusal::NONE {
         return HostCutterAnswer {
             refusal: no,
-            game: h,
             searched: 0,
             walked: 0,
+            game: h,
         };
     }
     answer_out(cutter::new_level(cutter_game(h), draws))
@@ -115,9 +115,9 @@ pub extern "C" fn sumbadger_cutter_direction(h: HostCutter, dir: u8) -> HostCutt
     if no != refusal::NONE {
         return HostCutterAnswer {
             refusal: no,
-            game: h,
             searched: 0,
             walked: 0,
+            game: h,
         };
     }
     answer_out(cutter::direction(cutter_game(h), dir))
@@ -132,9 +132,9 @@ pub extern "C" fn sumbadger_cutter_step_player(h: HostCutter) -> HostCutterAnswe
     if no != refusal::NONE {
         return HostCutterAnswer {
             refusal: no,
-            game: h,
             searched: 0,
             walked: 0,
+            game: h,
         };
     }
     answer_out(cutter::step_player(cutter_game(h)))
@@ -149,9 +149,9 @@ pub extern "C" fn sumbadger_cutter_step_by_sweeps(h: HostCutter) -> HostCutterAn
     if no != refusal::NONE {
         return HostCutterAnswer {
             refusal: no,
-            game: h,
             searched: 0,
             walked: 0,
+            game: h,
         };
     }
     answer_out(cutter::step_by_sweeps(cutter_game(h)))
@@ -166,9 +166,9 @@ pub extern "C" fn sumbadger_cutter_step_enemies(h: HostCutter) -> HostCutterAnsw
     if no != refusal::NONE {
         return HostCutterAnswer {
             refusal: no,
-            game: h,
             searched: 0,
             walked: 0,
+            game: h,
         };
     }
     answer_out(cutter::step_enemies(cutter_game(h)))
@@ -183,9 +183,9 @@ pub extern "C" fn sumbadger_cutter_respawn(h: HostCutter) -> HostCutterAnswer
     if no != refusal::NONE {
         return HostCutterAnswer {
             refusal: no,
-            game: h,
             searched: 0,
             walked: 0,
+            game: h,
         };
     }
     answer_out(cutter::respawn(cutter_game(h)))
@@ -207,10 +207,10 @@ pub extern "C" fn sumbadger_cutter_pass(
         return HostCutterPassed {
             refusal: no,
             answer: answer::number(Answer::GoingOn),
-            marks: marks,
-            game: h,
             searched: 0,
             walked: 0,
+            marks: marks,
+            game: h,
         };
     }
     turn_out(cutter::pass_marks(cutter_game(h), keys, draws, time, marks.first, marks.second))
