@@ -35,10 +35,7 @@ RULE(Mine, copy_mine)
 RULE(Mine, rule_mine_gravity)
 RULE(Mine, rule_mine_tick)
 RULE(Cutter, copy_cutter)
-RULE(Cutter, rule_cutter_step)
-RULE(Cutter, rule_cutter_step_by_sweeps)
 RULE(Cutter, rule_cutter_tick)
-RULE(Cutter, rule_cutter_respawn)
 
 NUMBER(Mine, u8, check_mine)
 NUMBER(Cutter, u8, check_cutter)
@@ -116,14 +113,21 @@ void by_rule_cutter_level(const Cutter *in, const u8 *draws, usize n, Cutter *ou
 
 typedef struct {
     usize words[2168 / 8];
+} Made;
+
+typedef struct {
+    usize words[2176 / 8];
 } Answer;
 
-#define CALL(name)                                                                                 \
-    void *name(Answer *out, Cutter in);                                                            \
-    void by_##name(const Cutter *in, Answer *out) { name(out, *in); }
+#define CALL(Result, name)                                                                         \
+    void *name(Result *out, Cutter in);                                                            \
+    void by_##name(const Cutter *in, Result *out) { name(out, *in); }
 
-CALL(call_cutter_step)
-CALL(call_cutter_step_by_sweeps)
+CALL(Made, rule_cutter_step)
+CALL(Made, rule_cutter_step_by_sweeps)
+CALL(Made, rule_cutter_respawn)
+CALL(Answer, call_cutter_step)
+CALL(Answer, call_cutter_step_by_sweeps)
 
 void *call_cutter_pass(Cutter *out, Cutter in, const u8 *keys, usize n, const u8 *draws, usize k,
                        u32 time, u32 first, u32 second);

@@ -10,7 +10,7 @@ use oracle::stand_ins::device;
 use oracle::state::{CW, Cutter, Mover, Pace};
 
 use crate::clock::Pair;
-use crate::ours::{Moved, Movers};
+use crate::ours::{Made, Moved, Movers};
 use crate::table::{Aim, Table};
 use crate::{EARLY, KEYS, LATE, ours, states};
 
@@ -28,7 +28,8 @@ pub fn rows(table: &Table) {
         let what = format!("Cutter creature tick, {n}");
         tick(table, &what, &states);
         let what = format!("{what}, by value");
-        rule(table, &what, Aim::More(copies), &states, Held::step_enemies, ours::cutter_tick);
+        let ours = |c: &Cutter, out: &mut Made| ours::cutter_tick(c, &mut out.game);
+        rule(table, &what, Aim::More(copies), &states, Held::step_enemies, ours);
     }
     let step = |what: &str, aim, states: &[Cutter]| {
         rule(table, what, aim, states, Held::step_player, ours::cutter_step);
@@ -100,9 +101,9 @@ fn rule(
     aim: Aim,
     states: &[Cutter],
     rust: fn(&mut Held),
-    ours: fn(&Cutter, &mut Cutter),
+    ours: fn(&Cutter, &mut Made),
 ) {
-    table.rule(what, aim, states, Held::of, |_, g| rust(g), Held::state, ours);
+    table.rule(what, aim, states, Held::of, |_, g| rust(g), |g| Made::of(g.state()), ours);
 }
 
 /// The tick on the ground as it lies; the creatures go in by value, and come out beside it.

@@ -13,11 +13,35 @@ pub struct Ground {
     pub share: u16,
 }
 
+/// What a Cutter step or respawn makes: the state, and the cells that its searches took, which the
+/// original doesn't tell.
+#[repr(C)]
+#[derive(Clone, Debug)]
+pub struct Made {
+    pub game: Cutter,
+    pub searched: u16,
+    pub walked: u16,
+}
+
+impl Made {
+    pub fn of(game: Cutter) -> Self {
+        Made { game, searched: 0, walked: 0 }
+    }
+}
+
+impl PartialEq for Made {
+    fn eq(&self, other: &Self) -> bool {
+        self.game == other.game
+    }
+}
+
 /// What a Cutter call answers.
 #[repr(C)]
 pub struct Answer {
     pub refusal: u8,
     pub game: Cutter,
+    pub searched: u16,
+    pub walked: u16,
 }
 
 /// Cutter's creatures after a tick, and whether one met the line.
@@ -72,13 +96,13 @@ calls! {
     mine_step: by_rule_mine_step(m: &Mine, dir: u8, out: &mut Mine);
     cutter_copy: by_copy_cutter(c: &Cutter, out: &mut Cutter);
     cutter_check: by_check_cutter(c: &Cutter) -> u8;
-    cutter_step: by_rule_cutter_step(c: &Cutter, out: &mut Cutter);
-    cutter_step_by_sweeps: by_rule_cutter_step_by_sweeps(c: &Cutter, out: &mut Cutter);
+    cutter_step: by_rule_cutter_step(c: &Cutter, out: &mut Made);
+    cutter_step_by_sweeps: by_rule_cutter_step_by_sweeps(c: &Cutter, out: &mut Made);
     cutter_call_step: by_call_cutter_step(c: &Cutter, out: &mut Answer);
     cutter_call_step_by_sweeps: by_call_cutter_step_by_sweeps(c: &Cutter, out: &mut Answer);
     cutter_tick: by_rule_cutter_tick(c: &Cutter, out: &mut Cutter);
     cutter_tick_on: by_rule_cutter_tick_on(grid: &[u8; CN], enemies: &[Mover; MOVERS], count: usize, out: &mut Moved);
-    cutter_respawn: by_rule_cutter_respawn(c: &Cutter, out: &mut Cutter);
+    cutter_respawn: by_rule_cutter_respawn(c: &Cutter, out: &mut Made);
     cutter_walk: by_rule_cutter_walk(c: &Cutter) -> usize;
     cutter_ground: by_call_cutter_ground(c: &Cutter) -> Ground;
     mine_who: by_call_mine_who(list: &Enemies, x: usize, y: usize) -> There;

@@ -4,7 +4,7 @@ use std::thread;
 
 use oracle::state::Cutter;
 
-use crate::ours::Answer;
+use crate::ours::{Answer, Made};
 use crate::{ours, states};
 
 const PAINT: u8 = 165;
@@ -37,7 +37,7 @@ type Call = fn(&Cutter, &mut Answer);
 
 fn on_thread(state: Cutter, call: Call) -> Used {
     let run = move || {
-        let mut out = Answer { refusal: 0, game: state.clone() };
+        let mut out = Answer { refusal: 0, game: state.clone(), searched: 0, walked: 0 };
         used(|| call(&state, &mut out))
     };
     thread::Builder::new().stack_size(STACK).spawn(run).expect("a thread").join().expect("a call")
@@ -46,7 +46,7 @@ fn on_thread(state: Cutter, call: Call) -> Used {
 pub fn rows() {
     println!("| Cutter call | stack below it, bytes | of them written |");
     println!("|---|---|---|");
-    let rule = |c: &Cutter, out: &mut Answer| ours::cutter_step(c, &mut out.game);
+    let rule = |c: &Cutter, _: &mut Answer| ours::cutter_step(c, &mut Made::of(c.clone()));
     let calls: [(&str, Cutter, Call); 8] = [
         ("copied in and out", states::middle().remove(0), |c, out| {
             ours::cutter_copy(c, &mut out.game)

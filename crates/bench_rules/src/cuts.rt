@@ -1,5 +1,6 @@
 // Block Cutter.
 use cutter_ground::CW;
+use cutter_rules::Made;
 use cutter_state::Cutter;
 use refusal::Refusal;
 ghost use mathlib.Core.Bool.{true};
@@ -8,13 +9,12 @@ ghost use Rattle.frame.specs.Frame.{pack};
 ghost use Rattle.cutter_border.specs.CodeBorder.{toBorder};
 ghost use Rattle.cutter_state.specs.WellFormed.{WellFormed, refusalOf};
 ghost use Rattle.cutter_rules.specs.Level.{drawsOk, creaturesOf, freshLevel};
-ghost use Rattle.cutter_rules.specs.Step.{stepped, respawned};
+ghost use Rattle.cutter_rules.specs.Cost.{stepMade, sweptMade, respawnMade};
 ghost use Rattle.cutter_rules.specs.Tick.{enemiesStepped};
 ghost use Rattle.cutter_moves.specs.CodeMoves.{OnGrid};
 ghost use Rattle.cutter_picture.specs.Picture.{cutLit};
 ghost use Rattle.cutter_picture.specs.CodePicture.{Drawable};
 ghost use Rattle.cutter_ground.specs.Cells.{place};
-ghost use Rattle.cutter_rules.specs.Sweeps.{sweptStep};
 
 // The copies of a state in and out, and nothing else.
 #[no_mangle]
@@ -32,17 +32,17 @@ pub extern "C" fn check_cutter(c: Cutter) -> Refusal
 }
 
 #[no_mangle]
-pub extern "C" fn rule_cutter_step(c: Cutter) -> Cutter
+pub extern "C" fn rule_cutter_step(c: Cutter) -> Made
     requires { ⌜ WellFormed c ⌝ }
-    ensures { λ r. ⌜ r ≡ stepped c ⌝ }
+    ensures { λ r. ⌜ r ≡ stepMade c ⌝ }
 {
     cutter_moves::step_player(c)
 }
 
 #[no_mangle]
-pub extern "C" fn rule_cutter_step_by_sweeps(c: Cutter) -> Cutter
+pub extern "C" fn rule_cutter_step_by_sweeps(c: Cutter) -> Made
     requires { ⌜ WellFormed c ⌝ }
-    ensures { λ r. ⌜ r ≡ sweptStep c ⌝ }
+    ensures { λ r. ⌜ r ≡ sweptMade c ⌝ }
 {
     cutter_moves::step_by_sweeps(c)
 }
@@ -56,8 +56,8 @@ pub extern "C" fn rule_cutter_tick(c: Cutter) -> Cutter
 }
 
 #[no_mangle]
-pub extern "C" fn rule_cutter_respawn(c: Cutter) -> Cutter
-    ensures { λ r. ⌜ r ≡ respawned c ⌝ }
+pub extern "C" fn rule_cutter_respawn(c: Cutter) -> Made
+    ensures { λ r. ⌜ r ≡ respawnMade c ⌝ }
 {
     cutter_moves::respawn(c)
 }
