@@ -9,15 +9,25 @@ use mine_state::Mine;
 use mine_state::W;
 use mine_state::coin_count;
 use mine_state::stands_at;
+use refusal::Fault;
+use refusal::HEADING;
+use refusal::NO_FAULT;
+use refusal::OFF_GRID;
 use refusal::Refusal;
+use refusal::SHARED_CELL;
+use refusal::SPARE_SLOT;
+use refusal::TOO_MANY;
+use refusal::WRONG_CELL;
 ghost use mathlib.Core.Bool.{_&&_, cond};
 ghost use mathlib.Core.Path.{_≡_};
 ghost use Prim.Native.Nat.{_≤_, _+_};
 ghost use lib.Dec.{leb, ltb};
 ghost use lib.ListN.{length, take, drop};
-ghost use Rattle.laws.specs.Lists.{all, count};
-ghost use Rattle.mine_state.specs.State.{AREA, MAX-ENEMIES, emptyAt, isCoin, isCode};
+ghost use Rattle.laws.specs.Lists.{all, any, count};
+ghost use Rattle.refusal.specs.Fault.{firstFault, spareFault, faultIn};
+ghost use Rattle.mine_state.specs.State.{AREA, MAX-ENEMIES, onGrid, emptyAt, standsAt, isCoin, isCode};
 ghost use Rattle.mine_state.specs.WellFormed.{creatureOk, apart, isBlank, refusalOf};
+ghost use Rattle.mine_state.specs.Faults.{creatureFault};
 
 fn larger(a: u8, b: u8) -> u8
     ensures { λ r. ⌜ r ≡ cond (ltb a b) b a ⌝ }
@@ -104,6 +114,111 @@ fn creatures_ok(grid: &[u8; AREA], enemies: [Enemy; MAX_ENEMIES], n: usize) -> b
         k += 1;
     }
     true
+}
+
+fn on_grid(x: usize, y: usize) -> bool
+    ensures { λ r. ⌜ r ≡ onGrid x y ⌝ }
+{
+    (x < W) & (y < H)
+}
+
+// One of the first i creatures stands where e does.
+fn shared(enemies: [Enemy; MAX_ENEMIES], i: usize, e: Enemy) -> bool
+    requires { ⌜ i ≤ MAX-ENEMIES ⌝ }
+    ensures { λ r. ⌜ r ≡ any (standsAt (e .x) (e .y)) (take i enemies) ⌝ }
+{
+    let mut j: usize = 0;
+    while j < i {
+        let d = enemies[j];
+        if stands_at(d, e.x, e.y) {
+            return true;
+        }
+        j += 1;
+    }
+    false
+}
+
+// What is wrong with e, the creature i.
+fn creature_fault(grid: &[u8; AREA], enemies: [Enemy; MAX_ENEMIES], i: usize, e: Enemy) -> Fault
+    requires { ⌜ (length (now grid) ≡ AREA) × (i ≤ MAX-ENEMIES) ⌝ }
+    ensures { λ r. ⌜ r ≡ creatureFault (now (grid .entry)) enemies i e ⌝ }
+{
+    if !on_grid(e.x, e.y) {
+        return Fault {
+            number: OFF_GRID,
+            at: i,
+        };
+    }
+    if !empty_at(grid, e.x, e.y) {
+        return Fault {
+            number: WRONG_CELL,
+            at: i,
+        };
+    }
+    if 3 < e.dir {
+        return Fault {
+            number: HEADING,
+            at: i,
+        };
+    }
+    if shared(enemies, i, e) {
+        return Fault {
+            number: SHARED_CELL,
+            at: i,
+        };
+    }
+    NO_FAULT
+}
+
+// The first of n creatures that is wrong.
+fn first_wrong(grid: &[u8; AREA], enemies: [Enemy; MAX_ENEMIES], n: usize) -> Fault
+    requires { ⌜ (length (now grid) ≡ AREA) × (n ≤ MAX-ENEMIES) ⌝ }
+    ensures { λ r. ⌜ r ≡ firstFault (creatureFault (now (grid .entry)) enemies) 0 (take n enemies) ⌝ }
+{
+    let mut i: usize = 0;
+    while i < n {
+        let e = enemies[i];
+        let fault = creature_fault(grid, enemies, i, e);
+        if fault.number != NO_FAULT.number {
+            return fault;
+        }
+        i += 1;
+    }
+    NO_FAULT
+}
+
+// The first slot past n creatures that doesn't hold zeros.
+fn first_spare(enemies: [Enemy; MAX_ENEMIES], n: usize) -> Fault
+    requires { ⌜ n ≤ MAX-ENEMIES ⌝ }
+    ensures { λ r. ⌜ r ≡ firstFault (spareFault isBlank) n (drop n enemies) ⌝ }
+{
+    let mut k = n;
+    while k < MAX_ENEMIES {
+        let e = enemies[k];
+        if !is_blank(e) {
+            return Fault {
+                number: SPARE_SLOT,
+                at: k,
+            };
+        }
+        k += 1;
+    }
+    NO_FAULT
+}
+
+// What is wrong with the creatures, where creatures_ok has found that something is.
+pub fn cause(grid: &[u8; AREA], enemies: [Enemy; MAX_ENEMIES], n: usize) -> Fault
+    requires { ⌜ length (now grid) ≡ AREA ⌝ }
+    ensures { λ r. ⌜ r ≡ faultIn MAX-ENEMIES (creatureFault (now (grid .entry)) enemies) isBlank enemies n ⌝ }
+{
+    if MAX_ENEMIES < n {
+        return TOO_MANY;
+    }
+    let fault = first_wrong(grid, enemies, n);
+    if fault.number != NO_FAULT.number {
+        return fault;
+    }
+    first_spare(enemies, n)
 }
 
 // Coins in hand and on the map, and the coins needed.

@@ -16,20 +16,7 @@ use Rattle.found.proofs.First.{from-least}
 use Rattle.mine_state.specs.declared.Enemy.{Enemy}
 use Rattle.mine_state.specs.State.{standsAt}
 use Rattle.mine_state.specs.WellFormed.{apart}
-
-eqb-sym : (a b : ℕ) → eqb a b ≡ eqb b a
-eqb-sym a b = go (eqb b a) refl
-  where
-    go : (t : Bool) → eqb b a ≡ t → eqb a b ≡ t
-    go true e = eq-eqb a b (sym (eqb-true b a e))
-    go false e = ne-eqb a b (λ q. eqb-false b a e (sym q))
-
--- a stands where b does
-abbrev pub with : Enemy → Enemy → Bool
-with b a = standsAt (b .x) (b .y) a
-
-with-sym : (a b : Enemy) → with a b ≡ with b a
-with-sym a b = ap₂ _&&_ (eqb-sym (b .x) (a .x)) (eqb-sym (b .y) (a .y))
+use Rattle.mine_state.proofs.Creatures.{with, with-sym, apart-snoc}
 
 -- what holds of none of a list and of none of one more
 pub any-last : (f : Enemy → Bool) (p : List Enemy) (v : Enemy) → any f (p ++ (v ∷ [])) ≡ false → (any f p ≡ false) × (f v ≡ false)
@@ -53,11 +40,9 @@ apart-set (e ∷ l) (suc i) v a n =
 
 -- the last of a list stands apart from those before it
 pub apart-last : (p : List Enemy) (v : Enemy) → apart (p ++ (v ∷ [])) ≡ true → (apart p ≡ true) × (any (with v) p ≡ false)
-apart-last [] v a = (refl, refl)
-apart-last (e ∷ p) v a =
-    let none = any-last (with e) p v (apart-head e (p ++ (v ∷ [])) a) in
-    let rest = apart-last p v (apart-tail e (p ++ (v ∷ [])) a) in
-    (rw (none .0) (rest .0), rw (with-sym v e ∙ none .1) (rest .1))
+apart-last p v a =
+    let both = sym (apart-snoc p v) ∙ a in
+    (and-left (apart p) (not (any (with v) p)) both, not-true (any (with v) p) (and-right (apart p) (not (any (with v) p)) both))
 
 there : (x y : ℕ) (d : Enemy) → standsAt x y d ≡ true → (x ≡ d .x) × (y ≡ d .y)
 there x y d q =

@@ -5,13 +5,19 @@ use mathlib.Core.Path.{_≡_, refl}
 use Prim.Native.Nat.{ℕ}
 use lib.ListN.{replicate}
 use Rattle.refusal.specs.Refusal.{NONE, CELLS, PLAYER, CREATURES, NUMBERS}
+use Rattle.refusal.specs.Fault.{NO-FAULT, TOO-MANY, OFF-GRID, WRONG-CELL, HEADING, SHARED-CELL, SPARE-SLOT, firstFault, faultIn}
 use Rattle.mine_state.specs.declared.Enemy.{Enemy}
 use Rattle.mine_state.specs.declared.Mine.{Mine}
-use Rattle.mine_state.specs.State.{W, AREA, MAX-ENEMIES, EMPTY, emptyAt, blankSlot}
+use Rattle.mine_state.specs.State.{W, H, AREA, MAX-ENEMIES, EMPTY, WALL, emptyAt, blankSlot}
+use Rattle.mine_state.specs.Change.{withCell}
+use Rattle.mine_state.specs.Faults.{creatureFault, creaturesFault}
 use Rattle.mine_state.specs.WellFormed.{cellsOk, creaturesOk, numbersOk, refusalOf}
 
+abbrev facing : ℕ → ℕ → ℕ → Enemy
+facing x y dir = record { x = x; y = y; dir = dir }
+
 abbrev creature : ℕ → Enemy
-creature x = record { x = x; y = 1; dir = 0 }
+creature x = facing x 1 0
 
 -- all cells of one code, the player in a column of row 1, the slots, so many creatures, so many coins needed
 abbrev stateOf : ℕ → ℕ → List Enemy → ℕ → ℕ → Mine
@@ -47,3 +53,60 @@ pub record Nearest : Type 0 where
 pub nearest : Nearest
 unfolding creaturesOk emptyAt
 nearest = record { right = refl; ninth = refl; together = refl; pastCount = refl }
+
+-- three slots, and five that hold zeros
+abbrev slots : Enemy → Enemy → Enemy → List Enemy
+slots a b c = a ∷ b ∷ c ∷ replicate 5 blankSlot
+
+-- an empty map but for a wall at (3, 1), the player elsewhere
+abbrev walled : List Enemy → ℕ → Mine
+walled es n = withCell (stateOf EMPTY 1 es n 1) 3 1 WALL
+
+abbrev rubbish : Enemy
+rubbish = facing 64 64 64
+
+-- each cause alone; each beside the next in the order, in one creature and in two; the place
+pub record Causes : Type 0 where
+  pub right : creaturesFault (walled (slots (creature 5) (facing 5 2 3) (creature 6)) 3) ≡ NO-FAULT
+  pub nine : creaturesFault (walled zeros 9) ≡ TOO-MANY
+  pub nineRubbish : creaturesFault (walled (replicate MAX-ENEMIES rubbish) 9) ≡ TOO-MANY
+  pub manyRubbish : creaturesFault (walled (replicate MAX-ENEMIES rubbish) 255) ≡ TOO-MANY
+  pub across : creaturesFault (walled (slots (creature 5) (creature W) (creature 6)) 3) ≡ OFF-GRID 1
+  pub down : creaturesFault (walled (slots (creature 5) (facing 5 H 0) (creature 6)) 3) ≡ OFF-GRID 1
+  pub offAndTurned : creaturesFault (walled (slots (creature 5) rubbish (creature 6)) 3) ≡ OFF-GRID 1
+  pub wall : creaturesFault (walled (slots (creature 5) (creature 3) (creature 6)) 3) ≡ WRONG-CELL 1
+  pub wallAndTurned : creaturesFault (walled (slots (creature 5) (facing 3 1 4) (creature 6)) 3) ≡ WRONG-CELL 1
+  pub wallBeforeOff : creaturesFault (walled (slots (creature 3) (creature W) (creature 6)) 3) ≡ WRONG-CELL 0
+  pub turned : creaturesFault (walled (slots (creature 5) (facing 6 1 4) (creature 7)) 3) ≡ HEADING 1
+  pub turnedAndShared : creaturesFault (walled (slots (creature 5) (facing 5 1 4) (creature 7)) 3) ≡ HEADING 1
+  pub turnedBeforeWall : creaturesFault (walled (slots (creature 5) (facing 6 1 4) (creature 3)) 3) ≡ HEADING 1
+  pub pair : creaturesFault (walled (slots (creature 5) (creature 6) (creature 5)) 3) ≡ SHARED-CELL 2
+  pub pairAroundTurned : creaturesFault (walled (slots (creature 5) (facing 6 1 4) (creature 5)) 3) ≡ HEADING 1
+  pub pairBeforeTurned : creaturesFault (walled (slots (creature 5) (creature 5) (facing 6 1 4)) 3) ≡ SHARED-CELL 1
+  pub pairAndSlot : creaturesFault (walled (slots (creature 5) (creature 5) rubbish) 2) ≡ SHARED-CELL 1
+  pub slot : creaturesFault (walled (slots (creature 5) blankSlot (facing 0 0 1)) 1) ≡ SPARE-SLOT 2
+  pub twoSlots : creaturesFault (walled (slots (creature 5) rubbish rubbish) 1) ≡ SPARE-SLOT 1
+
+pub causes : Causes
+unfolding creaturesFault faultIn firstFault creatureFault emptyAt
+causes = record {
+  right = refl;
+  nine = refl;
+  nineRubbish = refl;
+  manyRubbish = refl;
+  across = refl;
+  down = refl;
+  offAndTurned = refl;
+  wall = refl;
+  wallAndTurned = refl;
+  wallBeforeOff = refl;
+  turned = refl;
+  turnedAndShared = refl;
+  turnedBeforeWall = refl;
+  pair = refl;
+  pairAroundTurned = refl;
+  pairBeforeTurned = refl;
+  pairAndSlot = refl;
+  slot = refl;
+  twoSlots = refl;
+}

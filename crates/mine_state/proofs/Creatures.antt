@@ -1,21 +1,21 @@
 -- The creatures of a state: who is found, and where they stand. Assumes nothing.
-use mathlib.Core.Bool.{true, _&&_}
-use mathlib.Core.List.{List, [], _∷_}
-use mathlib.Core.Path.{_≡_, refl}
+use mathlib.Core.Bool.{Bool, true, false, _&&_, _||_, not}
+use mathlib.Core.List.{List, [], _∷_, _++_}
+use mathlib.Core.Path.{_≡_, refl, sym, ap₂}
 use Prim.Native.Nat.{ℕ, zero, suc, _<_, _≤_}
 use native.Mathlib.Omega.{arith}
 use lib.Dec.{eqb, leb}
 use lib.ListN.{getD, drop, take, length-take}
-use borrow.Author.Tests.{eqb-true, leb-true}
-use Rattle.laws.specs.Lists.{all}
+use borrow.Author.Tests.{eqb-true, eqb-false, eq-eqb, ne-eqb, leb-true}
+use Rattle.laws.specs.Lists.{all, any}
 use Rattle.laws.proofs.Choice.{and-left, and-right, and-both}
-use Rattle.laws.proofs.Lists.{all-at}
+use Rattle.laws.proofs.Lists.{all-at, any-append}
 use Rattle.found.specs.declared.Found.the-variants.{At}
 use Rattle.found.proofs.First.{first-bound}
 use Rattle.mine_state.specs.declared.Mine.{Mine}
 use Rattle.mine_state.specs.declared.Enemy.{Enemy}
 use Rattle.mine_state.specs.State.{W, H, onGrid, codeIn, EMPTY, emptyAt, creatures, standsAt, firstAt, blankSlot}
-use Rattle.mine_state.specs.WellFormed.{creatureOk, isBlank}
+use Rattle.mine_state.specs.WellFormed.{creatureOk, apart, isBlank}
 use Rattle.mine_state.proofs.Cells.{on-grid}
 use Rattle.mine_state.specs.CodeState.{onMap, allOnMap}
 
@@ -24,6 +24,33 @@ pub found-below : (m : Mine) (x y i n : ℕ) → firstAt m x y ≡ At i n → i 
 found-below m x y i n e =
     let h = first-bound (standsAt x y) i n (creatures m) e in
     omega (arith, simp length-take at h)
+
+eqb-sym : (a b : ℕ) → eqb a b ≡ eqb b a
+eqb-sym a b = go (eqb b a) refl
+  where
+    go : (t : Bool) → eqb b a ≡ t → eqb a b ≡ t
+    go true e = eq-eqb a b (sym (eqb-true b a e))
+    go false e = ne-eqb a b (λ q. eqb-false b a e (sym q))
+
+-- a stands where b does
+abbrev pub with : Enemy → Enemy → Bool
+with b a = standsAt (b .x) (b .y) a
+
+pub with-sym : (a b : Enemy) → with a b ≡ with b a
+with-sym a b = ap₂ _&&_ (eqb-sym (b .x) (a .x)) (eqb-sym (b .y) (a .y))
+
+-- no two of a list and one more stand on one cell where no two of the list do, and it stands on no cell of theirs
+pub apart-snoc : (l : List Enemy) (e : Enemy) → apart (l ++ (e ∷ [])) ≡ (apart l && not (any (with e) l))
+apart-snoc [] e = refl
+apart-snoc (d ∷ l) e =
+    rw (any-append (with d) l (e ∷ []), apart-snoc l e, with-sym d e)
+    (tests (any (with d) l) (with e d) (apart l) (any (with e) l))
+  where
+    tests : (a s p b : Bool) → (not (a || (s || false)) && (p && not b)) ≡ (not a && p && not (s || b))
+    tests true s p b = refl
+    tests false true true b = refl
+    tests false true false b = refl
+    tests false false p b = refl
 
 -- a creature that is right is on the map, and so is a slot that holds zeros
 creature-on-map : (g : List ℕ) (e : Enemy) → creatureOk g e ≡ true → onMap e ≡ true

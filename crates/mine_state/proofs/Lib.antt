@@ -4,3 +4,4 @@ pub mod Facts
 pub mod Cases
 pub mod Alone
 pub mod Coins
+pub mod Which

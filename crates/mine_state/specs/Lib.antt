@@ -2,3 +2,5 @@ pub mod State
 pub mod Change
 pub mod WellFormed
 pub mod CodeState
+pub mod Faults
+pub mod Which

@@ -18,3 +18,24 @@ pub const FRAME: Refusal = 6;
 pub const DRAWS: Refusal = 7;
 // a new level is due and the level is 65,535
 pub const LAST_LEVEL: Refusal = 8;
+
+// What is wrong with the creatures, in place of CREATURES: the number, and the index of the first that is wrong.
+#[repr(C)]
+pub struct Fault {
+    pub number: u8,
+    pub at: usize,
+}
+
+pub const NO_FAULT: Fault = Fault { number: 0, at: 0 };
+// too many of them
+pub const TOO_MANY: Fault = Fault { number: 31, at: 0 };
+// off the grid
+pub const OFF_GRID: u8 = 32;
+// on a wrong cell
+pub const WRONG_CELL: u8 = 33;
+// direction or velocity
+pub const HEADING: u8 = 34;
+// a Mine cell shared with an earlier creature
+pub const SHARED_CELL: u8 = 35;
+// a slot past the count that isn't zeros
+pub const SPARE_SLOT: u8 = 36;
