@@ -5,9 +5,11 @@ ghost use Prim.Native.Nat.{_≤_};
 ghost use lib.Dec.{leb};
 ghost use lib.ListN.{length, take, drop};
 ghost use Rattle.laws.specs.Lists.{all};
-ghost use Rattle.cutter_ground.specs.Cells.{CN};
+ghost use Rattle.refusal.specs.Fault.{firstFault, spareFault, faultIn};
+ghost use Rattle.cutter_ground.specs.Cells.{CN, onGrid};
 ghost use Rattle.cutter_state.specs.State.{holdsAt};
 ghost use Rattle.cutter_state.specs.WellFormed.{rowsFilled, columnsFilled, cellsOk, footing, directionOk, isUnit, moverOk, isBlank, numbersOk, refusalOf};
+ghost use Rattle.cutter_state.specs.Faults.{creatureFault};
 ghost use Rattle.cutter_check.specs.CodePasses.{largestOf, Counted};
 use cutter_ground::CB_BLACK;
 use cutter_ground::CB_FILLED;
@@ -22,10 +24,17 @@ use cutter_state::MAX_LEVEL;
 use cutter_state::MAX_LIVES;
 use refusal::CELLS;
 use refusal::CREATURES;
+use refusal::Fault;
+use refusal::HEADING;
+use refusal::NO_FAULT;
 use refusal::NONE;
 use refusal::NUMBERS;
+use refusal::OFF_GRID;
 use refusal::PLAYER;
 use refusal::Refusal;
+use refusal::SPARE_SLOT;
+use refusal::TOO_MANY;
+use refusal::WRONG_CELL;
 ghost use Rattle.cutter_ground.specs.Movers.{MAX-ENEMIES};
 
 // The largest code of the grid tells both whether all are codes and whether one is line.
@@ -125,13 +134,19 @@ fn player_ok(grid: &[u8; CN], trailing: bool, px: usize, py: usize, dx: i8, dy: 
     holds(grid, code, px, py) & direction_ok(dx, dy)
 }
 
+fn velocity_ok(e: Mover) -> bool
+    ensures { λ r. ⌜ r ≡ (isUnit (e .vx) && isUnit (e .vy)) ⌝ }
+{
+    is_unit(e.vx) & is_unit(e.vy)
+}
+
 fn mover_ok(grid: &[u8; CN], e: Mover) -> bool
     requires { ⌜ length (now grid) ≡ CN ⌝ }
     ensures { λ r. ⌜ r ≡ moverOk (now (grid .entry)) e ⌝ }
 {
     let x = e.x as usize;
     let y = e.y as usize;
-    holds(grid, CB_BLACK, x, y) & is_unit(e.vx) & is_unit(e.vy)
+    holds(grid, CB_BLACK, x, y) & velocity_ok(e)
 }
 
 fn movers_ok(grid: &[u8; CN], enemies: [Mover; MAX_ENEMIES], count: usize) -> bool
@@ -179,6 +194,91 @@ fn creatures_ok(grid: &[u8; CN], enemies: [Mover; MAX_ENEMIES], count: usize) ->
         return false;
     }
     movers_ok(grid, enemies, count) & rest_blank(enemies, count)
+}
+
+fn on_grid(x: usize, y: usize) -> bool
+    ensures { λ r. ⌜ r ≡ onGrid x y ⌝ }
+{
+    (x < CW) & (y < CH)
+}
+
+// What is wrong with e, the creature i.
+fn mover_fault(grid: &[u8; CN], i: usize, e: Mover) -> Fault
+    requires { ⌜ length (now grid) ≡ CN ⌝ }
+    ensures { λ r. ⌜ r ≡ creatureFault (now (grid .entry)) i e ⌝ }
+{
+    let x = e.x as usize;
+    let y = e.y as usize;
+    if !on_grid(x, y) {
+        return Fault {
+            number: OFF_GRID,
+            at: i,
+        };
+    }
+    if !holds(grid, CB_BLACK, x, y) {
+        return Fault {
+            number: WRONG_CELL,
+            at: i,
+        };
+    }
+    if !velocity_ok(e) {
+        return Fault {
+            number: HEADING,
+            at: i,
+        };
+    }
+    NO_FAULT
+}
+
+// The first of `count` creatures that is wrong.
+fn first_wrong(grid: &[u8; CN], enemies: [Mover; MAX_ENEMIES], count: usize) -> Fault
+    requires { ⌜ Counted (now grid) count ⌝ }
+    ensures { λ r. ⌜ r ≡ firstFault (creatureFault (now (grid .entry))) 0 (take count enemies) ⌝ }
+{
+    let mut i: usize = 0;
+    while i < count {
+        let e = enemies[i];
+        let fault = mover_fault(grid, i, e);
+        if fault.number != NO_FAULT.number {
+            return fault;
+        }
+        i += 1;
+    }
+    NO_FAULT
+}
+
+// The first slot past the count that doesn't hold zeros.
+fn first_spare(enemies: [Mover; MAX_ENEMIES], count: usize) -> Fault
+    requires { ⌜ count ≤ MAX-ENEMIES ⌝ }
+    ensures { λ r. ⌜ r ≡ firstFault (spareFault isBlank) count (drop count enemies) ⌝ }
+{
+    let mut k = count;
+    while k < MAX_ENEMIES {
+        let e = enemies[k];
+        if !blank_slot(e) {
+            return Fault {
+                number: SPARE_SLOT,
+                at: k,
+            };
+        }
+        k += 1;
+    }
+    NO_FAULT
+}
+
+// What is wrong with the creatures, where creatures_ok has found that something is.
+pub fn cause(grid: &[u8; CN], enemies: [Mover; MAX_ENEMIES], count: usize) -> Fault
+    requires { ⌜ length (now grid) ≡ CN ⌝ }
+    ensures { λ r. ⌜ r ≡ faultIn MAX-ENEMIES (creatureFault (now (grid .entry))) isBlank enemies count ⌝ }
+{
+    if MAX_ENEMIES < count {
+        return TOO_MANY;
+    }
+    let fault = first_wrong(grid, enemies, count);
+    if fault.number != NO_FAULT.number {
+        return fault;
+    }
+    first_spare(enemies, count)
 }
 
 fn numbers_ok(c: Cutter) -> bool

@@ -6,12 +6,14 @@ use Prim.Native.Nat.{ℕ, _+_, _-_}
 use lib.IntN.{ℤ, pos, negsuc}
 use lib.ListN.{replicate}
 use Rattle.refusal.specs.Refusal.{NONE, CELLS, PLAYER, CREATURES, NUMBERS}
+use Rattle.refusal.specs.Fault.{NO-FAULT, TOO-MANY, OFF-GRID, WRONG-CELL, HEADING, SPARE-SLOT, firstFault, faultIn}
 use Rattle.cutter_ground.specs.Cells.{CW, CN, CB-BLACK, CB-FILLED, CB-TRAIL}
 use Rattle.cutter_ground.specs.declared.Mover.{Mover}
 use Rattle.cutter_state.specs.declared.Cutter.{Cutter}
 use Rattle.cutter_state.specs.State.{holdsAt, shareIn}
 use Rattle.cutter_state.specs.WellFormed.{rowsFilled, columnsFilled, cellsOk, directionOk, playerOk, moverOk, isBlank, creaturesOk, numbersOk, refusalOf}
-use Rattle.cutter_ground.specs.Movers.{MAX-ENEMIES}
+use Rattle.cutter_state.specs.Faults.{creatureFault, creaturesFault}
+use Rattle.cutter_ground.specs.Movers.{MAX-ENEMIES, blankSlot}
 use Rattle.laws.specs.Lists.{tally}
 
 abbrev mover : ℕ → ℕ → ℤ → ℤ → Mover
@@ -73,6 +75,64 @@ nearest = record {
   sixteen = refl;
   seventeen = refl;
   fourLives = refl;
+}
+
+-- three slots, and thirteen that hold zeros
+abbrev three : Mover → Mover → Mover → List Mover
+three a b c = a ∷ b ∷ c ∷ replicate 13 blankSlot
+
+-- claimed but for black at (1, 1)
+abbrev pit : List Mover → ℕ → Cutter
+pit es n = stateOf (but CB-BLACK) 0 es n 1 3
+
+abbrev good : Mover
+good = mover 1 1 (pos 1) (negsuc 0)
+
+abbrev rubbish : Mover
+rubbish = mover 255 255 (pos 7) (pos 0)
+
+-- each cause alone; each beside the next in the order, in one creature and in two; the place
+pub record Causes : Type 0 where
+  pub right : creaturesFault (pit (three good good good) 3) ≡ NO-FAULT
+  pub seventeen : creaturesFault (pit zeros 17) ≡ TOO-MANY
+  pub seventeenRubbish : creaturesFault (pit (slots rubbish) 17) ≡ TOO-MANY
+  pub manyRubbish : creaturesFault (pit (slots rubbish) 255) ≡ TOO-MANY
+  pub x64 : creaturesFault (pit (three good (mover 64 1 (pos 1) (pos 1)) good) 3) ≡ OFF-GRID 1
+  pub x255 : creaturesFault (pit (three good (mover 255 1 (pos 1) (pos 1)) good) 3) ≡ OFF-GRID 1
+  pub y32 : creaturesFault (pit (three good (mover 1 32 (pos 1) (pos 1)) good) 3) ≡ OFF-GRID 1
+  pub offAndStill : creaturesFault (pit (three good rubbish good) 3) ≡ OFF-GRID 1
+  pub claimed : creaturesFault (pit (three good (mover 2 1 (pos 1) (pos 1)) good) 3) ≡ WRONG-CELL 1
+  pub claimedAndStill : creaturesFault (pit (three good (mover 2 1 (pos 0) (pos 1)) good) 3) ≡ WRONG-CELL 1
+  pub claimedBeforeOff : creaturesFault (pit (three (mover 2 1 (pos 1) (pos 1)) rubbish good) 3) ≡ WRONG-CELL 0
+  pub stillAcross : creaturesFault (pit (three good (mover 1 1 (pos 0) (pos 1)) good) 3) ≡ HEADING 1
+  pub stillDown : creaturesFault (pit (three good (mover 1 1 (pos 1) (pos 0)) good) 3) ≡ HEADING 1
+  pub fast : creaturesFault (pit (three good (mover 1 1 (pos 1) (negsuc 1)) good) 3) ≡ HEADING 1
+  pub stillBeforeClaimed : creaturesFault (pit (three good (mover 1 1 (pos 0) (pos 1)) (mover 2 1 (pos 1) (pos 1))) 3) ≡ HEADING 1
+  pub stillAndSlot : creaturesFault (pit (three good (mover 1 1 (pos 0) (pos 1)) rubbish) 2) ≡ HEADING 1
+  pub slot : creaturesFault (pit (three good blankSlot (mover 0 0 (pos 0) (pos 1))) 1) ≡ SPARE-SLOT 2
+  pub twoSlots : creaturesFault (pit (three good rubbish rubbish) 1) ≡ SPARE-SLOT 1
+
+pub causes : Causes
+unfolding creaturesFault faultIn firstFault creatureFault isBlank holdsAt
+causes = record {
+  right = refl;
+  seventeen = refl;
+  seventeenRubbish = refl;
+  manyRubbish = refl;
+  x64 = refl;
+  x255 = refl;
+  y32 = refl;
+  offAndStill = refl;
+  claimed = refl;
+  claimedAndStill = refl;
+  claimedBeforeOff = refl;
+  stillAcross = refl;
+  stillDown = refl;
+  fast = refl;
+  stillBeforeClaimed = refl;
+  stillAndSlot = refl;
+  slot = refl;
+  twoSlots = refl;
 }
 
 -- so many cells claimed, so many line, the rest black

@@ -2,3 +2,5 @@ pub mod State
 pub mod WellFormed
 pub mod Change
 pub mod CodeState
+pub mod Faults
+pub mod Which

@@ -82,6 +82,12 @@ module _ {A : Type 0} (fault : ℕ → A → Fault) where
         q,
       ) (sym (and-assoc (clear (fault i a)) (clear (firstFault fault (i + 1) (take k l))) (clear (fault (i + suc k) (getD l k d)))))
 
+  -- there is none where each element passes a test that tells its own fault
+  pub clear-each : (ok : A → Bool) → ((i : ℕ) (a : A) → clear (fault i a) ≡ ok a) → (i : ℕ) (l : List A) → clear (firstFault fault i l) ≡ all ok l
+  unfolding firstFault
+  clear-each ok f i [] = refl
+  clear-each ok f i (a ∷ l) = clear-then (fault i a) (firstFault fault (i + 1) l) ∙ ap₂ _&&_ (f i a) (clear-each ok f (i + 1) l)
+
   -- the first is that of the element k, and there is none before it
   pub record First (l : List A) (i : ℕ) (d : A) : Type 0 where
     pub k : ℕ
@@ -126,11 +132,7 @@ module _ {A : Type 0} (fault : ℕ → A → Fault) where
 module _ {A : Type 0} (blank : A → Bool) where
   -- slots without a fault are blank, and only those
   pub clear-spare : (i : ℕ) (l : List A) → clear (firstFault (spareFault blank) i l) ≡ all blank l
-  unfolding firstFault
-  clear-spare i [] = refl
-  clear-spare i (a ∷ l) =
-      clear-then (spareFault blank i a) (firstFault (spareFault blank) (i + 1) l)
-      ∙ ap₂ _&&_ (clear-unless (blank a) (SPARE-SLOT i) refl) (clear-spare (i + 1) l)
+  clear-spare = clear-each (spareFault blank) blank (λ i a. clear-unless (blank a) (SPARE-SLOT i) refl)
 
   -- A loop that looks for the first of them.
   module _ (l : List A) (i : ℕ) {R : Fault} (e : firstFault (spareFault blank) i (drop i l) ≡ R) {a : A} (h : drop i l ≡ a ∷ drop (i + 1) l) where

@@ -1,0 +1,74 @@
+use mathlib.Core.Path.{_≡_, refl, sym, _∙_, ap}
+use Prim.Native.Nat.{ℕ, _≤_, _-_}
+use native.Mathlib.Omega.{arith}
+use lib.ListN.{length, take, drop}
+use borrow.Author.Needs.{needs}
+use borrow.Author.Tests.{eq-eqb, ne-eqb}
+use Rattle.laws.proofs.Lists.{mapped, taken-one, taken-end}
+use Rattle.refusal.specs.Fault.{clear, firstFault}
+use Rattle.refusal.proofs.Faults.{fault-more, fault-found, fault-end}
+use Rattle.cutter_ground.specs.Movers.{MAX-ENEMIES}
+use Rattle.cutter_state.specs.Faults.{creatureFault}
+use Rattle.cutter_check.proofs.first_wrong.Statement.{statement}
+use Rattle.cutter_check.proofs.first_wrong.Tie as tie
+
+abbrev Inv-loop : tie.InvT-loop
+Inv-loop grid count enemies i₀ i =
+    firstFault (creatureFault grid) i (drop i (take count enemies)) ≡ firstFault (creatureFault grid) 0 (take count enemies)
+
+abbrev μ-loop : tie.MeasureT-loop
+μ-loop grid count enemies i₀ i = count - i
+
+loop-holds : tie.Need-loop-holds Inv-loop μ-loop
+loop-holds c = refl
+
+mover-fault-requires : tie.Need-mover-fault-requires Inv-loop μ-loop
+mover-fault-requires c κs = search needs
+
+returns : tie.Need-returns Inv-loop μ-loop
+returns c =
+    let f = c .before .before .before in
+    let k = f .before .before .before in
+    let s = k .before in
+    let l = s .args .t2 in
+    let n = s .args .count in
+    let full : length l ≡ MAX-ENEMIES = search (needs, mapped) in
+    f .mover-fault .ensures
+    ∙ fault-found (creatureFault (s .args .grid .now)) (take n l) (k .loop .i) (k .loop .inv)
+    (taken-one n l (k .loop .i) _ (omega arith) (omega arith))
+    (ap clear (sym (f .mover-fault .ensures)) ∙ ne-eqb _ 0 (c .if1 .taken))
+
+loop-again : tie.Need-loop-again Inv-loop μ-loop
+loop-again c =
+    let f = c .before .before .before in
+    let k = f .before .before .before in
+    let s = k .before in
+    let l = s .args .t2 in
+    let n = s .args .count in
+    let full : length l ≡ MAX-ENEMIES = search (needs, mapped) in
+    fault-more (creatureFault (s .args .grid .now)) (take n l) (k .loop .i) (k .loop .inv)
+    (taken-one n l (k .loop .i) _ (omega arith) (omega arith))
+    (ap clear (sym (f .mover-fault .ensures)) ∙ eq-eqb _ 0 (c .if1 .left))
+
+returns-2 : tie.Need-returns-2 Inv-loop μ-loop
+returns-2 c =
+    let k = c .before in
+    let s = k .before in
+    let l = s .args .t2 in
+    fault-end (creatureFault (s .args .grid .now)) (take (s .args .count) l) (k .loop .i) (k .loop .inv) (taken-end (s .args .count) l (k .loop .i) (c .loop-test .left))
+
+pub first-wrong-spec : {M : Type 1} → statement M
+first-wrong-spec =
+    tie.close
+    (tie.spec
+    Inv-loop
+    μ-loop
+    loop-holds
+    (λ c. search needs)
+    (λ c. search needs)
+    mover-fault-requires
+    returns
+    (λ c. search needs)
+    (λ c. search needs)
+    loop-again
+    returns-2)
