@@ -1,10 +1,11 @@
--- The promises of Block Cutter's calls: refused by a number and the state as it came, or answered.
+-- The promises of Block Cutter's calls: refused with the state as it came, or answered.
 use mathlib.Core.Bool.{false}
 use mathlib.Core.List.{List, []}
 use Prim.Native.Nat.{ℕ}
 use lib.Dec.{leb}
 use lib.IntN.{pos}
 use lib.ListN.{replicate}
+use Rattle.refusal.specs.declared.Refusal.{Refusal}
 use Rattle.refusal.specs.Refusal.{NONE, COMMAND, DRAWS, unless, _then_, refusedOr}
 use Rattle.cutter_ground.specs.Cells.{CN, CB-BLACK}
 use Rattle.cutter_state.specs.declared.Cutter.{Cutter}
@@ -21,8 +22,8 @@ use Rattle.controls.specs.Keys.{LEFT}
 use Rattle.cutter_rules.specs.Cost.{stepMade, sweptMade, respawnMade}
 use Rattle.cutter_rules.specs.declared.Made.{Made}
 
--- a refused call returns the number and the state it got
-abbrev pub refused : Cutter → ℕ → CutterAnswer
+-- a refused call returns the refusal and the state it got
+abbrev pub refused : Cutter → Refusal → CutterAnswer
 refused c n = record { refusal = n; game = c; searched = 0; walked = 0 }
 
 -- one that is not returns no number and the state after, with the cells that a search and a walk took
@@ -78,7 +79,7 @@ respawnCall c = refusedOr (refusalOf c) (refused c) (made (respawnMade c))
 -- ---- ground report: black, claimed and line cells, and the share
 
 -- zeros where refused
-abbrev pub unreported : ℕ → Ground
+abbrev pub unreported : Refusal → Ground
 unreported n = record { refusal = n; black = 0; claimed = 0; line = 0; share = 0 }
 
 abbrev pub reported : Cutter → Ground

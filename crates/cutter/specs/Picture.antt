@@ -3,12 +3,13 @@ use mathlib.Core.List.{List}
 use Prim.Native.Nat.{ℕ}
 use lib.Dec.{eqb}
 use lib.ListN.{length}
+use Rattle.refusal.specs.declared.Refusal.{Refusal}
 use Rattle.refusal.specs.Refusal.{NONE, FRAME, unless, _then_, refusedOr}
 use Rattle.frame.specs.Frame.{FRAME-LEN, pack}
 use Rattle.cutter_state.specs.declared.Cutter.{Cutter}
 use Rattle.cutter_state.specs.WellFormed.{refusalOf}
 use Rattle.cutter_picture.specs.Picture.{cutLit}
 
--- the refusal number, and the frame after: its own bytes where the call is refused (1 to 4, then 6 for a wrong length), the picture else
-unfoldable pub pictureOf : Cutter → List ℕ → ℕ × List ℕ
+-- the refusal, and the frame after: its own bytes where the call is refused (the state's own, then 6 for a wrong length), the picture else
+unfoldable pub pictureOf : Cutter → List ℕ → Refusal × List ℕ
 pictureOf c frame = refusedOr (refusalOf c then unless (eqb (length frame) FRAME-LEN) FRAME) (λ n. (n, frame)) (NONE, pack (cutLit c))

@@ -96,7 +96,7 @@ pub fn new_level(c: Cutter, draws: &[u8]) -> CutterAnswer
     ensures { λ r. ⌜ r ≡ levelCall c (now (draws .entry)) ⌝ }
 {
     let no = check(c);
-    if no != refusal::NONE {
+    if no.number != refusal::NONE.number {
         return CutterAnswer {
             refusal: no,
             game: c,
@@ -125,7 +125,7 @@ pub fn direction(c: Cutter, dir: u8) -> CutterAnswer
     ensures { λ r. ⌜ r ≡ directionCall c dir ⌝ }
 {
     let no = check(c);
-    if no != refusal::NONE {
+    if no.number != refusal::NONE.number {
         return CutterAnswer {
             refusal: no,
             game: c,
@@ -154,7 +154,7 @@ pub fn step_player(c: Cutter) -> CutterAnswer
     ensures { λ r. ⌜ r ≡ stepCall c ⌝ }
 {
     let no = check(c);
-    if no != refusal::NONE {
+    if no.number != refusal::NONE.number {
         return CutterAnswer {
             refusal: no,
             game: c,
@@ -177,7 +177,7 @@ pub fn step_by_sweeps(c: Cutter) -> CutterAnswer
     ensures { λ r. ⌜ r ≡ sweepsCall c ⌝ }
 {
     let no = check(c);
-    if no != refusal::NONE {
+    if no.number != refusal::NONE.number {
         return CutterAnswer {
             refusal: no,
             game: c,
@@ -200,7 +200,7 @@ pub fn step_enemies(c: Cutter) -> CutterAnswer
     ensures { λ r. ⌜ r ≡ enemiesCall c ⌝ }
 {
     let no = check(c);
-    if no != refusal::NONE {
+    if no.number != refusal::NONE.number {
         return CutterAnswer {
             refusal: no,
             game: c,
@@ -221,7 +221,7 @@ pub fn respawn(c: Cutter) -> CutterAnswer
     ensures { λ r. ⌜ r ≡ respawnCall c ⌝ }
 {
     let no = check(c);
-    if no != refusal::NONE {
+    if no.number != refusal::NONE.number {
         return CutterAnswer {
             refusal: no,
             game: c,
@@ -251,7 +251,7 @@ pub fn ground_report(c: Cutter) -> Ground
     ensures { λ r. ⌜ r ≡ reportCall c ⌝ }
 {
     let no = check(c);
-    if no != refusal::NONE {
+    if no.number != refusal::NONE.number {
         return Ground {
             refusal: no,
             black: 0,

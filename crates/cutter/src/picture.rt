@@ -12,7 +12,7 @@ pub fn render(c: Cutter, frame: &mut [u8]) -> Refusal
     ensures { λ r. ⌜ (r, now (frame .exit)) ≡ pictureOf c (now (frame .entry)) ⌝ }
 {
     let no = check(c);
-    if no != refusal::NONE {
+    if no.number != refusal::NONE.number {
         return no;
     }
     if frame.len() != FRAME_LEN {

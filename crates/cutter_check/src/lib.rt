@@ -5,11 +5,10 @@ ghost use Prim.Native.Nat.{_≤_};
 ghost use lib.Dec.{leb};
 ghost use lib.ListN.{length, take, drop};
 ghost use Rattle.laws.specs.Lists.{all};
-ghost use Rattle.refusal.specs.Fault.{firstFault, spareFault, faultIn};
+ghost use Rattle.refusal.specs.Faults.{firstFault, spareFault, faultIn};
 ghost use Rattle.cutter_ground.specs.Cells.{CN, onGrid};
 ghost use Rattle.cutter_state.specs.State.{holdsAt};
-ghost use Rattle.cutter_state.specs.WellFormed.{rowsFilled, columnsFilled, cellsOk, footing, directionOk, isUnit, moverOk, isBlank, numbersOk, refusalOf};
-ghost use Rattle.cutter_state.specs.Faults.{creatureFault};
+ghost use Rattle.cutter_state.specs.WellFormed.{rowsFilled, columnsFilled, cellsOk, footing, directionOk, isUnit, moverOk, isBlank, creatureFault, numbersOk, refusalOf};
 ghost use Rattle.cutter_check.specs.CodePasses.{largestOf, Counted};
 use cutter_ground::CB_BLACK;
 use cutter_ground::CB_FILLED;
@@ -23,10 +22,7 @@ use cutter_state::Cutter;
 use cutter_state::MAX_LEVEL;
 use cutter_state::MAX_LIVES;
 use refusal::CELLS;
-use refusal::CREATURES;
-use refusal::Fault;
 use refusal::HEADING;
-use refusal::NO_FAULT;
 use refusal::NONE;
 use refusal::NUMBERS;
 use refusal::OFF_GRID;
@@ -203,35 +199,35 @@ fn on_grid(x: usize, y: usize) -> bool
 }
 
 // What is wrong with e, the creature i.
-fn mover_fault(grid: &[u8; CN], i: usize, e: Mover) -> Fault
+fn mover_fault(grid: &[u8; CN], i: usize, e: Mover) -> Refusal
     requires { ⌜ length (now grid) ≡ CN ⌝ }
     ensures { λ r. ⌜ r ≡ creatureFault (now (grid .entry)) i e ⌝ }
 {
     let x = e.x as usize;
     let y = e.y as usize;
     if !on_grid(x, y) {
-        return Fault {
+        return Refusal {
             number: OFF_GRID,
             at: i,
         };
     }
     if !holds(grid, CB_BLACK, x, y) {
-        return Fault {
+        return Refusal {
             number: WRONG_CELL,
             at: i,
         };
     }
     if !velocity_ok(e) {
-        return Fault {
+        return Refusal {
             number: HEADING,
             at: i,
         };
     }
-    NO_FAULT
+    NONE
 }
 
 // The first of `count` creatures that is wrong.
-fn first_wrong(grid: &[u8; CN], enemies: [Mover; MAX_ENEMIES], count: usize) -> Fault
+fn first_wrong(grid: &[u8; CN], enemies: [Mover; MAX_ENEMIES], count: usize) -> Refusal
     requires { ⌜ Counted (now grid) count ⌝ }
     ensures { λ r. ⌜ r ≡ firstFault (creatureFault (now (grid .entry))) 0 (take count enemies) ⌝ }
 {
@@ -239,16 +235,16 @@ fn first_wrong(grid: &[u8; CN], enemies: [Mover; MAX_ENEMIES], count: usize) -> 
     while i < count {
         let e = enemies[i];
         let fault = mover_fault(grid, i, e);
-        if fault.number != NO_FAULT.number {
+        if fault.number != NONE.number {
             return fault;
         }
         i += 1;
     }
-    NO_FAULT
+    NONE
 }
 
 // The first slot past the count that doesn't hold zeros.
-fn first_spare(enemies: [Mover; MAX_ENEMIES], count: usize) -> Fault
+fn first_spare(enemies: [Mover; MAX_ENEMIES], count: usize) -> Refusal
     requires { ⌜ count ≤ MAX-ENEMIES ⌝ }
     ensures { λ r. ⌜ r ≡ firstFault (spareFault isBlank) count (drop count enemies) ⌝ }
 {
@@ -256,18 +252,18 @@ fn first_spare(enemies: [Mover; MAX_ENEMIES], count: usize) -> Fault
     while k < MAX_ENEMIES {
         let e = enemies[k];
         if !blank_slot(e) {
-            return Fault {
+            return Refusal {
                 number: SPARE_SLOT,
                 at: k,
             };
         }
         k += 1;
     }
-    NO_FAULT
+    NONE
 }
 
 // What is wrong with the creatures, where creatures_ok has found that something is.
-pub fn cause(grid: &[u8; CN], enemies: [Mover; MAX_ENEMIES], count: usize) -> Fault
+fn cause(grid: &[u8; CN], enemies: [Mover; MAX_ENEMIES], count: usize) -> Refusal
     requires { ⌜ length (now grid) ≡ CN ⌝ }
     ensures { λ r. ⌜ r ≡ faultIn MAX-ENEMIES (creatureFault (now (grid .entry))) isBlank enemies count ⌝ }
 {
@@ -275,7 +271,7 @@ pub fn cause(grid: &[u8; CN], enemies: [Mover; MAX_ENEMIES], count: usize) -> Fa
         return TOO_MANY;
     }
     let fault = first_wrong(grid, enemies, count);
-    if fault.number != NO_FAULT.number {
+    if fault.number != NONE.number {
         return fault;
     }
     first_spare(enemies, count)
@@ -287,7 +283,7 @@ fn numbers_ok(c: Cutter) -> bool
     (c.lives <= MAX_LIVES) & (1 <= c.level) & (c.level <= MAX_LEVEL)
 }
 
-// The number of the refusal that a state gets, NONE where it is well formed.
+// The refusal that a state gets, NONE where it is well formed.
 pub fn check(c: Cutter) -> Refusal
     ensures { λ r. ⌜ r ≡ refusalOf c ⌝ }
 {
@@ -301,7 +297,7 @@ pub fn check(c: Cutter) -> Refusal
         return PLAYER;
     }
     if !creatures_ok(&grid, enemies, c.count) {
-        return CREATURES;
+        return cause(&grid, enemies, c.count);
     }
     if !numbers_ok(c) {
         return NUMBERS;

@@ -8,7 +8,6 @@ use native.Mathlib.Omega.{arith}
 use lib.Dec.{eqb}
 use borrow.Author.Tests.{not-true}
 use Rattle.laws.proofs.Choice.{cond-both, bool-cases, and-left, and-right}
-use Rattle.refusal.specs.Refusal.{NONE}
 use Rattle.pace.specs.declared.Ticks.{Ticks}
 use Rattle.pace.specs.Pace.{bothTicks}
 use Rattle.cutter_state.specs.declared.Cutter.{Cutter}
@@ -101,7 +100,7 @@ module _ (first second : ℕ) (c : Cutter) (keys draws : List ℕ) (time : ℕ) 
   due-parts n = (not-true (c .dead) (and-left (not (c .dead)) (c .«won_level») n), and-right (not (c .dead)) (c .«won_level») n)
 
   -- every state that a pass gives without a refusal is well formed
-  pub pass-formed : passRefusal c draws ≡ NONE → WellFormed (t .passed .game)
+  pub pass-formed : passRefusal c draws .number ≡ 0 → WellFormed (t .passed .game)
   pass-formed e =
       let w = pass-state c draws e in
       ⊎-elim (λ n. let q = due-parts n in pass-fresh w (pass-level c draws e (q .0) (q .1)) (q .0) (q .1) .formed) (λ n. pass-accounts w n .formed) (bool-cases (levelDue c))

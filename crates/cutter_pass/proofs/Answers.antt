@@ -1,10 +1,11 @@
 -- The ways through a pass, each as the definition has it. Assumes nothing.
 use mathlib.Core.Bool.{true, false, cond}
 use mathlib.Core.List.{List}
-use mathlib.Core.Path.{_≡_, sym, _∙_, ap}
+use mathlib.Core.Path.{_≡_, sym}
 use Prim.Native.Nat.{ℕ}
+use Rattle.refusal.specs.declared.Refusal.{Refusal}
 use Rattle.refusal.specs.Refusal.{NONE}
-use Rattle.refusal.proofs.Calls.{refused-by, answered-by}
+use Rattle.refusal.proofs.Calls.{turned-away, let-in}
 use Rattle.answer.specs.declared.Answer.the-variants.{GoingOn, Quit}
 use Rattle.pace.specs.declared.Ticks.{Ticks}
 use Rattle.pace.specs.Pace.{bothTicks}
@@ -40,14 +41,11 @@ module _ (c : Cutter) (keys draws : List ℕ) (time first second : ℕ) where
   unfolding passOn
   on-keys d w = rw (d, w)
 
-  module _ {no : ℕ} (e : no ≡ passRefusal c draws) where
-    abbrev refused : ℕ → CutterTurn
-    refused n = still first second n GoingOn c
-
-    pub refused-pass : (no ≡ NONE → ⊥) → refused no ≡ passAt c keys draws time first second
+  module _ {no : Refusal} (e : no ≡ passRefusal c draws) where
+    pub refused-pass : (no .number ≡ 0 → ⊥) → still first second no GoingOn c ≡ passAt c keys draws time first second
     unfolding passAt
-    refused-pass n = ap refused e ∙ sym (refused-by refused (passOn first second c keys draws time) (passRefusal c draws) (λ z. n (e ∙ z)))
+    refused-pass some = turned-away (λ (n : Refusal). still first second n GoingOn c) (passOn first second c keys draws time) e some
 
-    pub played-pass : no ≡ NONE → {t : CutterTurn} → passOn first second c keys draws time ≡ t → t ≡ passAt c keys draws time first second
+    pub played-pass : no .number ≡ 0 → {t : CutterTurn} → passOn first second c keys draws time ≡ t → t ≡ passAt c keys draws time first second
     unfolding passAt
-    played-pass z q = sym q ∙ sym (answered-by refused (passOn first second c keys draws time) (passRefusal c draws) (sym e ∙ z))
+    played-pass z q = let-in (λ (n : Refusal). still first second n GoingOn c) (passOn first second c keys draws time) e (sym q) z

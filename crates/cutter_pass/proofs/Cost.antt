@@ -5,7 +5,6 @@ use Prim.Native.Nat.{ℕ, _≤_}
 use native.Mathlib.Omega.{arith}
 use lib.Dec.{eqb}
 use Rattle.laws.proofs.Choice.{cond-both}
-use Rattle.refusal.specs.Refusal.{NONE}
 use Rattle.refusal.proofs.Calls.{refused-or-answered}
 use Rattle.answer.specs.declared.Answer.the-variants.{GoingOn}
 use Rattle.pace.specs.declared.Ticks.{Ticks}
@@ -40,9 +39,10 @@ module _ (c : Cutter) (keys draws : List ℕ) (time first second : ℕ) where
       let p = played c keys in
       let due : Ticks = ticksAt first second time in
       let k = keys-kept c keys w .formed in
-      cond-both Within (p .quit) _ _ (λ _. nothing) (λ _.
-      (cond-both (λ n. n ≤ INNER) (due .one) (stepSearched (p .game)) 0 (λ _. cost-kept .most (p .game) k) (λ _. omega arith),
-      cond-both (λ n. n ≤ CN) (due .one) (stepWalked (p .game)) 0 (λ _. cost-kept .walked (p .game) k) (λ _. omega arith)))
+      cond-both Within (p .quit) _ _ (λ _. nothing) (λ _. (
+        cond-both (λ n. n ≤ INNER) (due .one) (stepSearched (p .game)) 0 (λ _. cost-kept .most (p .game) k) (λ _. omega arith),
+        cond-both (λ n. n ≤ CN) (due .one) (stepWalked (p .game)) 0 (λ _. cost-kept .walked (p .game) k) (λ _. omega arith),
+      ))
 
   on-within : WellFormed c → Within (passOn first second c keys draws time)
   unfolding passOn
@@ -54,7 +54,7 @@ module _ (c : Cutter) (keys draws : List ℕ) (time first second : ℕ) where
       refused-or-answered (λ n. still first second n GoingOn c) (passOn first second c keys draws time) Within (passRefusal c draws)
       (λ _. nothing) (λ e. on-within (pass-state c draws e))
 
-  pass-refused : (passRefusal c draws ≡ NONE → ⊥) → Costs (passAt c keys draws time first second .passed) 0 0
+  pass-refused : (passRefusal c draws .number ≡ 0 → ⊥) → Costs (passAt c keys draws time first second .passed) 0 0
   unfolding passAt
   pass-refused some =
       refused-or-answered (λ n. still first second n GoingOn c) (passOn first second c keys draws time) (λ t. Costs (t .passed) 0 0) (passRefusal c draws)

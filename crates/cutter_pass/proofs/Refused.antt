@@ -7,7 +7,8 @@ use native.Mathlib.Omega.{arith}
 use lib.Dec.{eqb}
 use lib.ListN.{length}
 use borrow.Author.Tests.{eqb-false, ne-eqb, not-true}
-use Rattle.refusal.specs.Refusal.{NONE, DRAWS, LAST-LEVEL, unless}
+use Rattle.refusal.specs.declared.Refusal.{Refusal}
+use Rattle.refusal.specs.Refusal.{DRAWS, LAST-LEVEL, unless}
 use Rattle.refusal.proofs.Calls.{then-second, then-none, unless-none}
 use Rattle.cutter_state.specs.declared.Cutter.{Cutter}
 use Rattle.cutter_state.specs.WellFormed.{MAX-LEVEL, refusalOf, WellFormed}
@@ -26,22 +27,22 @@ unfolding levelRefusal
 last-level c draws e = rw e
 
 -- any draws in other passes are refused
-pub draws-unasked : (c : Cutter) (d : ℕ) (ds : List ℕ) → refusalOf c ≡ NONE → levelDue c ≡ false → passRefusal c (d ∷ ds) ≡ DRAWS
+pub draws-unasked : (c : Cutter) (d : ℕ) (ds : List ℕ) → refusalOf c .number ≡ 0 → levelDue c ≡ false → passRefusal c (d ∷ ds) ≡ DRAWS
 unfolding passRefusal
 draws-unasked c d ds e q = then-second (refusalOf c) _ e ∙ simp (q, ne-eqb (length (d ∷ ds)) 0 (λ (z : length (d ∷ ds) ≡ 0). omega (arith, z)))
 
-module _ (c : Cutter) (draws : List ℕ) (e : passRefusal c draws ≡ NONE) where
-  abbrev rest : Bool → ℕ
+module _ (c : Cutter) (draws : List ℕ) (e : passRefusal c draws .number ≡ 0) where
+  abbrev rest : Bool → Refusal
   rest due = cond due (levelRefusal c draws) (unless (eqb (length draws) 0) DRAWS)
 
-  parts : (refusalOf c ≡ NONE) × (rest (levelDue c) ≡ NONE)
+  parts : (refusalOf c .number ≡ 0) × (rest (levelDue c) .number ≡ 0)
   unfolding passRefusal
   parts = then-none (refusalOf c) (rest (levelDue c)) e
 
   pub pass-state : WellFormed c
   pass-state = accepted c (parts .0)
 
-  next-level : levelRefusal c draws ≡ NONE → NextLevel c draws
+  next-level : levelRefusal c draws .number ≡ 0 → NextLevel c draws
   unfolding levelRefusal
   next-level l =
       let below = not (eqb (c .level) MAX-LEVEL) in
@@ -54,4 +55,4 @@ module _ (c : Cutter) (draws : List ℕ) (e : passRefusal c draws ≡ NONE) wher
       }
 
   pub pass-level : c .dead ≡ false → c .«won_level» ≡ true → NextLevel c draws
-  pass-level d w = next-level (ap rest (sym (due-level c d w)) ∙ parts .1)
+  pass-level d w = next-level (ap (λ (b : Bool). rest b .number) (sym (due-level c d w)) ∙ parts .1)

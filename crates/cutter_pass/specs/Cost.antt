@@ -2,7 +2,6 @@
 use mathlib.Core.List.{List}
 use mathlib.Core.Path.{_≡_}
 use Prim.Native.Nat.{ℕ, _≤_}
-use Rattle.refusal.specs.Refusal.{NONE}
 use Rattle.cutter_ground.specs.Cells.{CN, INNER}
 use Rattle.cutter_state.specs.declared.Cutter.{Cutter}
 use Rattle.cutter_pass.specs.declared.CutterPassed.{CutterPassed}
@@ -14,6 +13,6 @@ Costs p searched walked = (p .searched ≤ searched) × (p .walked ≤ walked)
 
 pub record PassCost : Type 0 where
   -- a refused pass takes none
-  pub refused : (c : Cutter) (keys draws : List ℕ) (time first second : ℕ) → (passRefusal c draws ≡ NONE → ⊥) → Costs (passAt c keys draws time first second .passed) 0 0
+  pub refused : (c : Cutter) (keys draws : List ℕ) (time first second : ℕ) → (passRefusal c draws .number ≡ 0 → ⊥) → Costs (passAt c keys draws time first second .passed) 0 0
   -- any pass at most 1,860 and 2,048
   pub most : (c : Cutter) (keys draws : List ℕ) (time first second : ℕ) → Costs (passAt c keys draws time first second .passed) INNER CN

@@ -4,6 +4,7 @@ use mathlib.Core.List.{List, [], _∷_}
 use Prim.Native.Nat.{ℕ, _+_, _-_, _*_, _/_}
 use lib.Dec.{eqb, ltb}
 use lib.ListN.{length}
+use Rattle.refusal.specs.declared.Refusal.{Refusal}
 use Rattle.refusal.specs.Refusal.{NONE, DRAWS, LAST-LEVEL, unless, _then_, refusedOr}
 use Rattle.answer.specs.declared.Answer.{Answer}
 use Rattle.answer.specs.declared.Answer.the-variants.{GoingOn, Over, Quit}
@@ -43,13 +44,13 @@ unfoldable pub levelDue : Cutter → Bool
 levelDue c = not (c .dead) && c .«won_level»
 
 -- 8 where the level is 65,535; then 7 for draws that are not those of level n, the old level plus 1
-unfoldable pub levelRefusal : Cutter → List ℕ → ℕ
+unfoldable pub levelRefusal : Cutter → List ℕ → Refusal
 levelRefusal c draws =
     unless (not (eqb (c .level) MAX-LEVEL)) LAST-LEVEL
     then unless (drawsOk draws (creaturesOf (c .level + 1))) DRAWS
 
 -- after the state's own refusals; 7 for any draws in other passes
-unfoldable pub passRefusal : Cutter → List ℕ → ℕ
+unfoldable pub passRefusal : Cutter → List ℕ → Refusal
 passRefusal c draws =
     refusalOf c then cond (levelDue c) (levelRefusal c draws) (unless (eqb (length draws) 0) DRAWS)
 
@@ -99,7 +100,7 @@ pacedWalked c due = cond (due .one) (stepWalked c) 0
 
 module _ (first second : ℕ) where
   -- the record with these marks, and the cells that a search and a walk took
-  abbrev pub costing : ℕ → Answer → Cutter → ℕ → ℕ → CutterTurn
+  abbrev pub costing : Refusal → Answer → Cutter → ℕ → ℕ → CutterTurn
   costing refusal answer c searched walked =
       record {
         first = first;
@@ -108,7 +109,7 @@ module _ (first second : ℕ) where
       }
 
   -- neither search nor walk
-  abbrev pub still : ℕ → Answer → Cutter → CutterTurn
+  abbrev pub still : Refusal → Answer → Cutter → CutterTurn
   still refusal answer c = costing refusal answer c 0 0
 
   -- over at 0 lives, else respawn, end of pass

@@ -5,14 +5,14 @@ use mathlib.Core.Path.{_≡_, refl}
 use Prim.Native.Nat.{ℕ, _+_, _-_}
 use lib.IntN.{ℤ, pos, negsuc}
 use lib.ListN.{replicate}
-use Rattle.refusal.specs.Refusal.{NONE, CELLS, PLAYER, CREATURES, NUMBERS}
-use Rattle.refusal.specs.Fault.{NO-FAULT, TOO-MANY, OFF-GRID, WRONG-CELL, HEADING, SPARE-SLOT, firstFault, faultIn}
+use Rattle.refusal.specs.Refusal.{NONE, CELLS, PLAYER, TOO-MANY, OFF-GRID, WRONG-CELL, HEADING, SPARE-SLOT, NUMBERS}
+use Rattle.refusal.specs.Faults.{firstFault, faultIn}
 use Rattle.cutter_ground.specs.Cells.{CW, CN, CB-BLACK, CB-FILLED, CB-TRAIL}
 use Rattle.cutter_ground.specs.declared.Mover.{Mover}
 use Rattle.cutter_state.specs.declared.Cutter.{Cutter}
 use Rattle.cutter_state.specs.State.{holdsAt, shareIn}
 use Rattle.cutter_state.specs.WellFormed.{rowsFilled, columnsFilled, cellsOk, directionOk, playerOk, moverOk, isBlank, creaturesOk, numbersOk, refusalOf}
-use Rattle.cutter_state.specs.Faults.{creatureFault, creaturesFault}
+use Rattle.cutter_state.specs.WellFormed.{creatureFault, creaturesFault}
 use Rattle.cutter_ground.specs.Movers.{MAX-ENEMIES, blankSlot}
 use Rattle.laws.specs.Lists.{tally}
 
@@ -41,12 +41,12 @@ but k = replicate (CW + 1) CB-FILLED ++ (k ∷ replicate (CN - CW - 2) CB-FILLED
 pub record Order : Type 0 where
   pub one : refusalOf (stateOf (cells CB-BLACK) CW zeros 17 0 3) ≡ CELLS
   pub two : refusalOf (stateOf (cells CB-FILLED) CW zeros 17 0 3) ≡ PLAYER
-  pub three : refusalOf (stateOf (cells CB-FILLED) 0 zeros 17 0 3) ≡ CREATURES
+  pub three : refusalOf (stateOf (cells CB-FILLED) 0 zeros 17 0 3) ≡ TOO-MANY
   pub four : refusalOf (stateOf (cells CB-FILLED) 0 zeros 0 0 3) ≡ NUMBERS
   pub none : refusalOf (stateOf (cells CB-FILLED) 0 zeros 0 1 3) ≡ NONE
 
 pub order : Order
-unfolding refusalOf cellsOk rowsFilled columnsFilled playerOk moverOk creaturesOk numbersOk isBlank holdsAt
+unfolding refusalOf cellsOk rowsFilled columnsFilled playerOk creaturesFault faultIn firstFault numbersOk isBlank holdsAt
 order = record { one = refl; two = refl; three = refl; four = refl; none = refl }
 
 -- each part with one thing wrong, by one
@@ -93,7 +93,7 @@ rubbish = mover 255 255 (pos 7) (pos 0)
 
 -- each cause alone; each beside the next in the order, in one creature and in two; the place
 pub record Causes : Type 0 where
-  pub right : creaturesFault (pit (three good good good) 3) ≡ NO-FAULT
+  pub right : creaturesFault (pit (three good good good) 3) ≡ NONE
   pub seventeen : creaturesFault (pit zeros 17) ≡ TOO-MANY
   pub seventeenRubbish : creaturesFault (pit (slots rubbish) 17) ≡ TOO-MANY
   pub manyRubbish : creaturesFault (pit (slots rubbish) 255) ≡ TOO-MANY

@@ -12,16 +12,17 @@ use Rattle.cutter_ground.specs.Cells.{CN}
 use Rattle.cutter_state.specs.declared.Cutter.{Cutter}
 use Rattle.cutter_state.specs.State.{holdsAt, creatures, spare}
 use Rattle.cutter_state.specs.WellFormed.{MAX-LIVES, MAX-LEVEL, isCode, isTrail, rowsFilled, columnsFilled, cellsOk, footing, directionOk}
-use Rattle.cutter_state.specs.WellFormed.{playerOk, moverOk, isBlank, creaturesOk, numbersOk, wellFormed, refusalOf, WellFormed}
+use Rattle.cutter_state.specs.WellFormed.{playerOk, moverOk, isBlank, creaturesOk, creaturesFault, numbersOk, wellFormed, refusalOf, WellFormed}
+use Rattle.cutter_state.proofs.Which.{fault-clear}
 use Rattle.cutter_ground.specs.Movers.{MAX-ENEMIES}
 
-none-well-formed : (c : Cutter) → refusalOf c ≡ NONE → wellFormed c ≡ true
+none-well-formed : (c : Cutter) → refusalOf c .number ≡ 0 → wellFormed c ≡ true
 unfolding refusalOf wellFormed
-none-well-formed c e = none-passes (cellsOk (c .grid) (c .trailing)) (playerOk c) (creaturesOk c) (numbersOk c) e
+none-well-formed c e = rw (fault-clear c) at (none-passes (cellsOk (c .grid) (c .trailing)) (playerOk c) (creaturesFault c) (numbersOk c) e)
 
 pub well-formed-none : (c : Cutter) → wellFormed c ≡ true → refusalOf c ≡ NONE
 unfolding refusalOf wellFormed
-well-formed-none c e = passes-none (cellsOk (c .grid) (c .trailing)) (playerOk c) (creaturesOk c) (numbersOk c) e
+well-formed-none c e = passes-none (cellsOk (c .grid) (c .trailing)) (playerOk c) (creaturesFault c) (numbersOk c) (rw (fault-clear c) e)
 
 alike : (a b : Bool) → Bool·beq a b ≡ true → a ≡ b
 alike true true e = refl
@@ -64,7 +65,7 @@ facts c e =
     }
 
 -- a state that is not refused is well formed
-pub accepted : (c : Cutter) → refusalOf c ≡ NONE → WellFormed c
+pub accepted : (c : Cutter) → refusalOf c .number ≡ 0 → WellFormed c
 accepted c e = facts c (none-well-formed c e)
 
 pub from-facts : (c : Cutter) → WellFormed c → wellFormed c ≡ true

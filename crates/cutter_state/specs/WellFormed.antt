@@ -7,8 +7,10 @@ use lib.Dec.{leb, eqb}
 use lib.IntN.{ℤ, natAbs}
 use lib.ListN.{length}
 use Rattle.laws.specs.Lists.{all, any, allBelow}
-use Rattle.refusal.specs.Refusal.{CELLS, PLAYER, CREATURES, NUMBERS, unless, _then_}
-use Rattle.cutter_ground.specs.Cells.{CW, CH, CN, CB-BLACK, CB-FILLED, CB-TRAIL, cellAt, place, claimedAt}
+use Rattle.refusal.specs.declared.Refusal.{Refusal}
+use Rattle.refusal.specs.Refusal.{CELLS, PLAYER, OFF-GRID, WRONG-CELL, HEADING, NUMBERS, unless, _then_}
+use Rattle.refusal.specs.Faults.{faultIn}
+use Rattle.cutter_ground.specs.Cells.{CW, CH, CN, CB-BLACK, CB-FILLED, CB-TRAIL, cellAt, place, onGrid, claimedAt}
 use Rattle.cutter_ground.specs.declared.Mover.{Mover}
 use Rattle.cutter_state.specs.declared.Cutter.{Cutter}
 use Rattle.cutter_state.specs.State.{holdsAt, creatures, spare}
@@ -58,7 +60,7 @@ directionOk dx dy = leb (natAbs dx + natAbs dy) 1
 unfoldable pub playerOk : Cutter → Bool
 playerOk c = holdsAt (c .grid) (footing (c .trailing)) (c .px) (c .py) && directionOk (c .dx) (c .dy)
 
--- ---- 3: a creature or their number
+-- ---- in place of 3, 31 to 36: a creature or their number
 
 -- -1 or 1
 abbrev pub isUnit : ℤ → Bool
@@ -83,6 +85,17 @@ creaturesOk c =
     && all (moverOk (c .grid)) (creatures c)
     && all isBlank (spare c)
 
+-- the same by creature, of the one in the slot i: off the grid, on a wrong cell, its velocity
+unfoldable pub creatureFault : List ℕ → ℕ → Mover → Refusal
+creatureFault g i e =
+    unless (onGrid (e .x) (e .y)) (OFF-GRID i)
+    then unless (holdsAt g CB-BLACK (e .x) (e .y)) (WRONG-CELL i)
+    then unless (isUnit (e .vx) && isUnit (e .vy)) (HEADING i)
+
+-- too many first, then by creature, a slot past the count last
+unfoldable pub creaturesFault : Cutter → Refusal
+creaturesFault c = faultIn MAX-ENEMIES (creatureFault (c .grid)) isBlank (c .enemies) (c .count)
+
 -- ---- 4: lives or level
 
 -- lives 0 to 3, level 1 to 65,535
@@ -94,12 +107,12 @@ numbersOk c = leb (c .lives) MAX-LIVES && leb 1 (c .level) && leb (c .level) MAX
 unfoldable pub wellFormed : Cutter → Bool
 wellFormed c = cellsOk (c .grid) (c .trailing) && playerOk c && creaturesOk c && numbersOk c
 
--- the number of the refusal that a state gets: the first that applies
-unfoldable pub refusalOf : Cutter → ℕ
+-- the refusal that a state gets: the first that applies, the creatures' fault in place of 3
+unfoldable pub refusalOf : Cutter → Refusal
 refusalOf c =
     unless (cellsOk (c .grid) (c .trailing)) CELLS
     then unless (playerOk c) PLAYER
-    then unless (creaturesOk c) CREATURES
+    then creaturesFault c
     then unless (numbersOk c) NUMBERS
 
 -- what well-formedness says, part by part

@@ -51,7 +51,7 @@ fn refusal_of(c: Cutter, draws: &[u8]) -> Refusal
     ensures { λ r. ⌜ r ≡ passRefusal c (now (draws .entry)) ⌝ }
 {
     let no = check(c);
-    if no != refusal::NONE {
+    if no.number != refusal::NONE.number {
         return no;
     }
     if level_due(c) {
@@ -266,7 +266,7 @@ pub fn pass_at(
     ensures { λ r. ⌜ r ≡ passAt c (now (keys .entry)) (now (draws .entry)) time first second ⌝ }
 {
     let no = refusal_of(c, draws);
-    if no != refusal::NONE {
+    if no.number != refusal::NONE.number {
         return turn(first, second, no, Answer::GoingOn, c, 0, 0);
     }
     if c.dead {

@@ -5,6 +5,7 @@ use denote.Ref.{now}
 use lib.ListN.{take}
 use Rattle.contracts.specs.Decides.{Decides}
 use Rattle.contracts.proofs.Decides.{decided}
+use Rattle.refusal.specs.declared.Refusal.{Refusal}
 use Rattle.found.specs.declared.Found.{Found}
 use Rattle.pace.specs.declared.Pace.{Pace}
 use Rattle.mine_state.specs.declared.Mine.{Mine}
@@ -52,7 +53,7 @@ pass-marks-tight 𝓤 H A mem run κs a g r r′ s s′ =
 -- the frame stands in the second place
 pub render-tight : {M : Type 1} → Decides M render.ended render.clauses
 render-tight 𝓤 H A mem run κs a g r r′ s s′ =
-    decided 𝓤 (λ (z : ℕ × List ℕ). (z .0, (tt, (z .1, tt)))) (r, s .1 .0) (r′, s′ .1 .0) (pictureOf (a .0) (now (a .1 .0)))
+    decided 𝓤 (λ (z : Refusal × List ℕ). (z .0, (tt, (z .1, tt)))) (r, s .1 .0) (r′, s′ .1 .0) (pictureOf (a .0) (now (a .1 .0)))
 
 pub who-tight : {M : Type 1} → Decides M who.ended who.clauses
 who-tight 𝓤 H A mem run κs a g r r′ s s′ = decided 𝓤 (λ (z : Found). (z, s)) r r′ (whoAt (now (a .0)) (a .1 .0) (a .1 .1 .0))

@@ -1,6 +1,7 @@
 -- The promises of Block Mine's calls on a state: refused by a number and the state as it came, or answered.
 use Prim.Native.Nat.{ℕ}
 use lib.Dec.{leb}
+use Rattle.refusal.specs.declared.Refusal.{Refusal}
 use Rattle.refusal.specs.Refusal.{NONE, COMMAND, unless, _then_, refusedOr}
 use Rattle.mine_state.specs.declared.Mine.{Mine}
 use Rattle.mine_state.specs.WellFormed.{refusalOf}
@@ -10,8 +11,8 @@ use Rattle.mine_rules.specs.Gravity.{gravityOf}
 use Rattle.mine.specs.declared.calls.MineAnswer.{MineAnswer}
 use Rattle.controls.specs.Keys.{LEFT}
 
--- a refused call returns the number and the state it got
-abbrev pub refused : Mine → ℕ → MineAnswer
+-- a refused call returns the refusal and the state it got
+abbrev pub refused : Mine → Refusal → MineAnswer
 refused m n = record { refusal = n; game = m }
 
 -- one that is not returns no number and the state after

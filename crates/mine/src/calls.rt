@@ -25,7 +25,7 @@ pub fn step_player(m: Mine, dir: u8) -> MineAnswer
     ensures { λ r. ⌜ r ≡ moveCall m dir ⌝ }
 {
     let no = check(m);
-    if no != refusal::NONE {
+    if no.number != refusal::NONE.number {
         return MineAnswer {
             refusal: no,
             game: m,
@@ -48,7 +48,7 @@ pub fn gravity(m: Mine) -> MineAnswer
     ensures { λ r. ⌜ r ≡ gravityCall m ⌝ }
 {
     let no = check(m);
-    if no != refusal::NONE {
+    if no.number != refusal::NONE.number {
         return MineAnswer {
             refusal: no,
             game: m,
@@ -65,7 +65,7 @@ pub fn move_enemies(m: Mine) -> MineAnswer
     ensures { λ r. ⌜ r ≡ tickCall m ⌝ }
 {
     let no = check(m);
-    if no != refusal::NONE {
+    if no.number != refusal::NONE.number {
         return MineAnswer {
             refusal: no,
             game: m,

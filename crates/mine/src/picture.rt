@@ -11,7 +11,7 @@ pub fn render(m: Mine, frame: &mut [u8]) -> Refusal
     ensures { λ r. ⌜ (r, now (frame .exit)) ≡ pictureOf m (now (frame .entry)) ⌝ }
 {
     let no = check(m);
-    if no != refusal::NONE {
+    if no.number != refusal::NONE.number {
         return no;
     }
     if frame.len() != FRAME_LEN {

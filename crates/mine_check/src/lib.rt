@@ -9,10 +9,12 @@ use mine_state::Mine;
 use mine_state::W;
 use mine_state::coin_count;
 use mine_state::stands_at;
-use refusal::Fault;
+use refusal::CELLS;
 use refusal::HEADING;
-use refusal::NO_FAULT;
+use refusal::NONE;
+use refusal::NUMBERS;
 use refusal::OFF_GRID;
+use refusal::PLAYER;
 use refusal::Refusal;
 use refusal::SHARED_CELL;
 use refusal::SPARE_SLOT;
@@ -24,10 +26,9 @@ ghost use Prim.Native.Nat.{_≤_, _+_};
 ghost use lib.Dec.{leb, ltb};
 ghost use lib.ListN.{length, take, drop};
 ghost use Rattle.laws.specs.Lists.{all, any, count};
-ghost use Rattle.refusal.specs.Fault.{firstFault, spareFault, faultIn};
+ghost use Rattle.refusal.specs.Faults.{firstFault, spareFault, faultIn};
 ghost use Rattle.mine_state.specs.State.{AREA, MAX-ENEMIES, onGrid, emptyAt, standsAt, isCoin, isCode};
-ghost use Rattle.mine_state.specs.WellFormed.{creatureOk, apart, isBlank, refusalOf};
-ghost use Rattle.mine_state.specs.Faults.{creatureFault};
+ghost use Rattle.mine_state.specs.WellFormed.{creatureOk, apart, isBlank, creatureFault, refusalOf};
 
 fn larger(a: u8, b: u8) -> u8
     ensures { λ r. ⌜ r ≡ cond (ltb a b) b a ⌝ }
@@ -139,39 +140,39 @@ fn shared(enemies: [Enemy; MAX_ENEMIES], i: usize, e: Enemy) -> bool
 }
 
 // What is wrong with e, the creature i.
-fn creature_fault(grid: &[u8; AREA], enemies: [Enemy; MAX_ENEMIES], i: usize, e: Enemy) -> Fault
+fn creature_fault(grid: &[u8; AREA], enemies: [Enemy; MAX_ENEMIES], i: usize, e: Enemy) -> Refusal
     requires { ⌜ (length (now grid) ≡ AREA) × (i ≤ MAX-ENEMIES) ⌝ }
     ensures { λ r. ⌜ r ≡ creatureFault (now (grid .entry)) enemies i e ⌝ }
 {
     if !on_grid(e.x, e.y) {
-        return Fault {
+        return Refusal {
             number: OFF_GRID,
             at: i,
         };
     }
     if !empty_at(grid, e.x, e.y) {
-        return Fault {
+        return Refusal {
             number: WRONG_CELL,
             at: i,
         };
     }
     if 3 < e.dir {
-        return Fault {
+        return Refusal {
             number: HEADING,
             at: i,
         };
     }
     if shared(enemies, i, e) {
-        return Fault {
+        return Refusal {
             number: SHARED_CELL,
             at: i,
         };
     }
-    NO_FAULT
+    NONE
 }
 
 // The first of n creatures that is wrong.
-fn first_wrong(grid: &[u8; AREA], enemies: [Enemy; MAX_ENEMIES], n: usize) -> Fault
+fn first_wrong(grid: &[u8; AREA], enemies: [Enemy; MAX_ENEMIES], n: usize) -> Refusal
     requires { ⌜ (length (now grid) ≡ AREA) × (n ≤ MAX-ENEMIES) ⌝ }
     ensures { λ r. ⌜ r ≡ firstFault (creatureFault (now (grid .entry)) enemies) 0 (take n enemies) ⌝ }
 {
@@ -179,16 +180,16 @@ fn first_wrong(grid: &[u8; AREA], enemies: [Enemy; MAX_ENEMIES], n: usize) -> Fa
     while i < n {
         let e = enemies[i];
         let fault = creature_fault(grid, enemies, i, e);
-        if fault.number != NO_FAULT.number {
+        if fault.number != NONE.number {
             return fault;
         }
         i += 1;
     }
-    NO_FAULT
+    NONE
 }
 
 // The first slot past n creatures that doesn't hold zeros.
-fn first_spare(enemies: [Enemy; MAX_ENEMIES], n: usize) -> Fault
+fn first_spare(enemies: [Enemy; MAX_ENEMIES], n: usize) -> Refusal
     requires { ⌜ n ≤ MAX-ENEMIES ⌝ }
     ensures { λ r. ⌜ r ≡ firstFault (spareFault isBlank) n (drop n enemies) ⌝ }
 {
@@ -196,18 +197,18 @@ fn first_spare(enemies: [Enemy; MAX_ENEMIES], n: usize) -> Fault
     while k < MAX_ENEMIES {
         let e = enemies[k];
         if !is_blank(e) {
-            return Fault {
+            return Refusal {
                 number: SPARE_SLOT,
                 at: k,
             };
         }
         k += 1;
     }
-    NO_FAULT
+    NONE
 }
 
 // What is wrong with the creatures, where creatures_ok has found that something is.
-pub fn cause(grid: &[u8; AREA], enemies: [Enemy; MAX_ENEMIES], n: usize) -> Fault
+fn cause(grid: &[u8; AREA], enemies: [Enemy; MAX_ENEMIES], n: usize) -> Refusal
     requires { ⌜ length (now grid) ≡ AREA ⌝ }
     ensures { λ r. ⌜ r ≡ faultIn MAX-ENEMIES (creatureFault (now (grid .entry)) enemies) isBlank enemies n ⌝ }
 {
@@ -215,7 +216,7 @@ pub fn cause(grid: &[u8; AREA], enemies: [Enemy; MAX_ENEMIES], n: usize) -> Faul
         return TOO_MANY;
     }
     let fault = first_wrong(grid, enemies, n);
-    if fault.number != NO_FAULT.number {
+    if fault.number != NONE.number {
         return fault;
     }
     first_spare(enemies, n)
@@ -235,7 +236,7 @@ fn numbers_ok(grid: &[u8; AREA], coins: u32, needed: u32) -> bool
     (hand + map <= AREA) & (1 <= asked) & (asked <= AREA)
 }
 
-// The number of the refusal that a state gets, and NONE.
+// The refusal that a state gets, and NONE.
 pub fn check(m: Mine) -> Refusal
     ensures { λ r. ⌜ r ≡ refusalOf m ⌝ }
 {
@@ -243,16 +244,16 @@ pub fn check(m: Mine) -> Refusal
     let grid = m.grid;
     let enemies = m.enemies;
     if !codes_ok(&grid) {
-        return refusal::CELLS;
+        return CELLS;
     }
     if !empty_at(&grid, m.px, m.py) {
-        return refusal::PLAYER;
+        return PLAYER;
     }
     if !creatures_ok(&grid, enemies, m.count) {
-        return refusal::CREATURES;
+        return cause(&grid, enemies, m.count);
     }
     if !numbers_ok(&grid, m.coins, m.needed) {
-        return refusal::NUMBERS;
+        return NUMBERS;
     }
-    refusal::NONE
+    NONE
 }

@@ -1,15 +1,15 @@
 -- Lists of creatures, no two on one cell: one laid into another's slot, and one gone. Assumes nothing.
-use mathlib.Core.Bool.{Bool, true, false, cond, _&&_, _||_, not}
+use mathlib.Core.Bool.{Bool, true, false, cond, _||_, not}
 use mathlib.Core.List.{List, [], _∷_, _++_}
-use mathlib.Core.Path.{_≡_, refl, sym, _∙_, ap, ap₂}
+use mathlib.Core.Path.{_≡_, refl, sym, _∙_, ap}
 use Prim.Native.Nat.{ℕ, zero, suc, _+_}
 use native.Mathlib.Omega.{arith}
 use lib.Dec.{eqb}
 use lib.ListN.{set}
-use borrow.Author.Tests.{eqb-true, eqb-false, eq-eqb, ne-eqb, not-true}
+use borrow.Author.Tests.{eqb-true, not-true}
 use Rattle.laws.specs.Lists.{any, count}
 use Rattle.laws.proofs.Lists.{any-set, any-append}
-use Rattle.laws.proofs.Choice.{and-left, and-right, and-both, or-left, or-right}
+use Rattle.laws.proofs.Choice.{and-left, and-right, or-left, or-right}
 use Rattle.found.specs.First.{firstFrom}
 use Rattle.found.specs.declared.Found.the-variants.{At}
 use Rattle.found.proofs.First.{from-least}

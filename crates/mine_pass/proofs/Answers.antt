@@ -1,10 +1,12 @@
 -- The ways through a pass, each as the definition has it. Assumes nothing.
 use mathlib.Core.Bool.{true, false, cond}
 use mathlib.Core.List.{List}
-use mathlib.Core.Path.{_≡_, sym, _∙_, ap}
+use mathlib.Core.Path.{_≡_}
 use Prim.Native.Nat.{ℕ}
-use Rattle.refusal.specs.Refusal.{NONE}
-use Rattle.refusal.proofs.Calls.{refused-by}
+use borrow.Author.Tests.{eq-eqb}
+use Rattle.refusal.specs.declared.Refusal.{Refusal}
+use Rattle.refusal.specs.Refusal.{NONE, clear}
+use Rattle.refusal.proofs.Calls.{turned-away, none-of}
 use Rattle.answer.specs.declared.Answer.the-variants.{GoingOn, Won, Dead, Quit}
 use Rattle.pace.specs.declared.Ticks.{Ticks}
 use Rattle.pace.specs.Pace.{bothTicks}
@@ -27,15 +29,13 @@ module _ (first second time : ℕ) (p : Played Mine) where
   after-ticks k t f g = rw (k, g, f, t)
 
 module _ (m : Mine) (keys : List ℕ) (time first second : ℕ) where
-  pub refused-pass : {no : ℕ} → no ≡ refusalOf m → (no ≡ NONE → ⊥) → still first second no GoingOn m ≡ passAt m keys time first second
+  pub refused-pass : {no : Refusal} → no ≡ refusalOf m → (no .number ≡ 0 → ⊥) → still first second no GoingOn m ≡ passAt m keys time first second
   unfolding passAt
-  refused-pass e n =
-      ap (λ (k : ℕ). still first second k GoingOn m) e
-      ∙ sym (refused-by (λ k. still first second k GoingOn m) (passOn first second m keys time) (refusalOf m) (λ z. n (e ∙ z)))
+  refused-pass e n = turned-away (λ (k : Refusal). still first second k GoingOn m) (passOn first second m keys time) e n
 
-  module _ {no : ℕ} (e : no ≡ refusalOf m) (z : no ≡ NONE) where
-    none : refusalOf m ≡ NONE
-    none = sym e ∙ z
+  module _ {no : Refusal} (e : no ≡ refusalOf m) (z : no .number ≡ 0) where
+    none : clear (refusalOf m) ≡ true
+    none = eq-eqb (refusalOf m .number) 0 (none-of e z)
 
     pub won-pass : m .won ≡ true → still first second NONE Won m ≡ passAt m keys time first second
     unfolding passAt passOn

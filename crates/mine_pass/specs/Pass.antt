@@ -3,6 +3,7 @@ use mathlib.Core.Bool.{Bool, true, false, cond}
 use mathlib.Core.List.{List, [], _∷_}
 use Prim.Native.Nat.{ℕ}
 use lib.Dec.{eqb}
+use Rattle.refusal.specs.declared.Refusal.{Refusal}
 use Rattle.refusal.specs.Refusal.{NONE, refusedOr}
 use Rattle.answer.specs.declared.Answer.{Answer}
 use Rattle.answer.specs.declared.Answer.the-variants.{GoingOn, Won, Dead, Quit}
@@ -39,7 +40,7 @@ paced m due =
 
 module _ (first second : ℕ) where
   -- the record as it was
-  abbrev pub still : ℕ → Answer → Mine → MineTurn
+  abbrev pub still : Refusal → Answer → Mine → MineTurn
   still refusal answer m = record { first = first; second = second; passed = record { refusal = refusal; answer = answer; game = m } }
 
   -- quit: no ticks; else both ticks of the reading

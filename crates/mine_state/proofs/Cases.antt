@@ -4,14 +4,13 @@ use mathlib.Core.List.{List, [], _∷_}
 use mathlib.Core.Path.{_≡_, refl}
 use Prim.Native.Nat.{ℕ}
 use lib.ListN.{replicate}
-use Rattle.refusal.specs.Refusal.{NONE, CELLS, PLAYER, CREATURES, NUMBERS}
-use Rattle.refusal.specs.Fault.{NO-FAULT, TOO-MANY, OFF-GRID, WRONG-CELL, HEADING, SHARED-CELL, SPARE-SLOT, firstFault, faultIn}
+use Rattle.refusal.specs.Refusal.{NONE, CELLS, PLAYER, TOO-MANY, OFF-GRID, WRONG-CELL, HEADING, SHARED-CELL, SPARE-SLOT, NUMBERS}
+use Rattle.refusal.specs.Faults.{firstFault, faultIn}
 use Rattle.mine_state.specs.declared.Enemy.{Enemy}
 use Rattle.mine_state.specs.declared.Mine.{Mine}
 use Rattle.mine_state.specs.State.{W, H, AREA, MAX-ENEMIES, EMPTY, WALL, emptyAt, blankSlot}
 use Rattle.mine_state.specs.Change.{withCell}
-use Rattle.mine_state.specs.Faults.{creatureFault, creaturesFault}
-use Rattle.mine_state.specs.WellFormed.{cellsOk, creaturesOk, numbersOk, refusalOf}
+use Rattle.mine_state.specs.WellFormed.{cellsOk, creaturesOk, creatureFault, creaturesFault, numbersOk, refusalOf}
 
 abbrev facing : ℕ → ℕ → ℕ → Enemy
 facing x y dir = record { x = x; y = y; dir = dir }
@@ -35,12 +34,12 @@ eight x = creature 1 ∷ creature 2 ∷ creature 3 ∷ creature 4 ∷ creature 5
 pub record Order : Type 0 where
   pub one : refusalOf (stateOf 6 W zeros 9 0) ≡ CELLS
   pub two : refusalOf (stateOf EMPTY W zeros 9 0) ≡ PLAYER
-  pub three : refusalOf (stateOf EMPTY 1 zeros 9 0) ≡ CREATURES
+  pub three : refusalOf (stateOf EMPTY 1 zeros 9 0) ≡ TOO-MANY
   pub four : refusalOf (stateOf EMPTY 1 zeros 0 0) ≡ NUMBERS
   pub none : refusalOf (stateOf EMPTY 1 zeros 0 1) ≡ NONE
 
 pub order : Order
-unfolding refusalOf cellsOk creaturesOk numbersOk emptyAt
+unfolding refusalOf cellsOk creaturesFault faultIn firstFault numbersOk emptyAt
 order = record { one = refl; two = refl; three = refl; four = refl; none = refl }
 
 -- eight creatures, and the same with one thing wrong
@@ -67,7 +66,7 @@ rubbish = facing 64 64 64
 
 -- each cause alone; each beside the next in the order, in one creature and in two; the place
 pub record Causes : Type 0 where
-  pub right : creaturesFault (walled (slots (creature 5) (facing 5 2 3) (creature 6)) 3) ≡ NO-FAULT
+  pub right : creaturesFault (walled (slots (creature 5) (facing 5 2 3) (creature 6)) 3) ≡ NONE
   pub nine : creaturesFault (walled zeros 9) ≡ TOO-MANY
   pub nineRubbish : creaturesFault (walled (replicate MAX-ENEMIES rubbish) 9) ≡ TOO-MANY
   pub manyRubbish : creaturesFault (walled (replicate MAX-ENEMIES rubbish) 255) ≡ TOO-MANY

@@ -6,12 +6,14 @@ use lib.ListN.{length, drop}
 use borrow.Author.Tests.{eqb-true, leb-true, eq-eqb, le-leb}
 use Rattle.laws.specs.Lists.{all}
 use Rattle.laws.proofs.Choice.{and-left, and-right, and-three}
+use Rattle.refusal.specs.Refusal.{NONE}
 use Rattle.refusal.proofs.Checks.{none-passes, passes-none}
 use Rattle.mine_state.specs.declared.Mine.{Mine}
 use Rattle.mine_state.specs.State.{AREA, MAX-ENEMIES, isCode, creatures, purse}
-use Rattle.mine_state.specs.WellFormed.{cellsOk, playerOk, creatureOk, apart, isBlank, creaturesOk, numbersOk, wellFormed, refusalOf, WellFormed}
+use Rattle.mine_state.specs.WellFormed.{cellsOk, playerOk, creatureOk, apart, isBlank, creaturesOk, creaturesFault, numbersOk, wellFormed, refusalOf, WellFormed}
 use Rattle.mine_state.proofs.Cells.{empty-inside}
 use Rattle.mine_state.proofs.Creatures.{slots-on-map}
+use Rattle.mine_state.proofs.Which.{fault-clear}
 use Rattle.mine_state.specs.CodeState.{Sound}
 
 -- where the arrays have their sizes, the codes decide
@@ -20,13 +22,13 @@ unfolding cellsOk
 cells-ok m a b e = simp (eq-eqb (length (m .grid)) AREA a, eq-eqb (length (m .falling)) AREA b) (sym e)
 
 -- no number is given where all four checks pass, and only there
-none-well-formed : (m : Mine) → refusalOf m ≡ 0 → wellFormed m ≡ true
+none-well-formed : (m : Mine) → refusalOf m .number ≡ 0 → wellFormed m ≡ true
 unfolding refusalOf wellFormed
-none-well-formed m e = none-passes (cellsOk m) (playerOk m) (creaturesOk m) (numbersOk m) e
+none-well-formed m e = rw (fault-clear m) at (none-passes (cellsOk m) (playerOk m) (creaturesFault m) (numbersOk m) e)
 
-pub well-formed-none : (m : Mine) → wellFormed m ≡ true → refusalOf m ≡ 0
+pub well-formed-none : (m : Mine) → wellFormed m ≡ true → refusalOf m ≡ NONE
 unfolding refusalOf wellFormed
-well-formed-none m e = passes-none (cellsOk m) (playerOk m) (creaturesOk m) (numbersOk m) e
+well-formed-none m e = passes-none (cellsOk m) (playerOk m) (creaturesFault m) (numbersOk m) (rw (fault-clear m) e)
 
 pub facts : (m : Mine) → wellFormed m ≡ true → WellFormed m
 unfolding wellFormed cellsOk creaturesOk numbersOk
@@ -55,7 +57,7 @@ facts m e =
     }
 
 -- a state that is not refused is well formed
-pub accepted : (m : Mine) → refusalOf m ≡ 0 → WellFormed m
+pub accepted : (m : Mine) → refusalOf m .number ≡ 0 → WellFormed m
 accepted m e = facts m (none-well-formed m e)
 
 pub from-facts : (m : Mine) → WellFormed m → wellFormed m ≡ true

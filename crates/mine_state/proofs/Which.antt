@@ -1,6 +1,6 @@
--- A fault is told exactly where the creatures are wrong, and says what is. Assumes nothing.
+-- A cause is given exactly where the creatures are wrong, and says what is. Assumes nothing.
 use mathlib.Core.Bool.{Bool, true, false, _&&_, not, and-assoc, true≢false}
-use mathlib.Core.List.{List, [], _∷_, _++_}
+use mathlib.Core.List.{List, [], _∷_}
 use mathlib.Core.Path.{_≡_, refl, sym, ap, ap₂, _∙_}
 use Prim.Native.Nat.{ℕ, zero, suc, _<_, _≤_}
 use native.Mathlib.Nat.{zero-add}
@@ -12,20 +12,22 @@ use borrow.Author.Tests.{leb-false, not-false}
 use Rattle.laws.specs.Lists.{all, any}
 use Rattle.laws.proofs.Choice.{and-left, and-right, and-both}
 use Rattle.laws.proofs.Lists.{all-append}
-use Rattle.refusal.specs.declared.Fault.{Fault}
-use Rattle.refusal.specs.Fault.{OFF-GRID, WRONG-CELL, HEADING, SHARED-CELL, clear, unless, _then_, firstFault, roomFor}
+use Rattle.refusal.specs.declared.Refusal.{Refusal}
+use Rattle.refusal.specs.Refusal.{OFF-GRID, WRONG-CELL, HEADING, SHARED-CELL, clear, unless, _then_}
+use Rattle.refusal.specs.Faults.{firstFault, roomFor}
+use Rattle.refusal.specs.InPlace.{isCause}
+use Rattle.refusal.proofs.Checks.{in-place-of-3, cause-given}
 use Rattle.refusal.proofs.Faults.{clear-more, clear-in, told}
 use Rattle.mine_state.specs.declared.Mine.{Mine}
 use Rattle.mine_state.specs.declared.Enemy.{Enemy}
 use Rattle.mine_state.specs.State.{MAX-ENEMIES, onGrid, codeIn, EMPTY, emptyAt, creatures, blankSlot}
-use Rattle.mine_state.specs.WellFormed.{creatureOk, apart, isBlank, creaturesOk}
-use Rattle.mine_state.specs.Faults.{creatureFault, creaturesFault}
+use Rattle.mine_state.specs.WellFormed.{cellsOk, playerOk, creatureOk, apart, isBlank, creaturesOk, creatureFault, creaturesFault, numbersOk, refusalOf}
 use Rattle.mine_state.specs.Which.{slotAt, RightTo, Tells, offGrid, wrongCell, heading, shared, spare, tooMany, Which}
 use Rattle.mine_state.proofs.Creatures.{with, apart-snoc}
 
 -- the four checks of a creature: where none fails, and which is the first that does
 module _ (i : ℕ) where
-  abbrev checks : Bool → Bool → Bool → Bool → Fault
+  abbrev checks : Bool → Bool → Bool → Bool → Refusal
   checks grid cell dir alone = unless grid (OFF-GRID i) then unless cell (WRONG-CELL i) then unless dir (HEADING i) then unless alone (SHARED-CELL i)
 
   checks-clear : (a b c d : Bool) → clear (checks a (a && b) c d) ≡ (a && b && c && d)
@@ -35,7 +37,7 @@ module _ (i : ℕ) where
   checks-clear true true true false = refl
   checks-clear true true true true = refl
 
-  checks-given : (P : Fault → Type 0) (a b c d : Bool)
+  checks-given : (P : Refusal → Type 0) (a b c d : Bool)
       → (a ≡ false → P (OFF-GRID i)) → (a ≡ true → b ≡ false → P (WRONG-CELL i))
       → (b ≡ true → c ≡ false → P (HEADING i)) → (b ≡ true → c ≡ true → d ≡ false → P (SHARED-CELL i))
       → clear (checks a b c d) ≡ false → P (checks a b c d)
@@ -71,9 +73,10 @@ module _ (g : List ℕ) (slots : List Enemy) where
       tests false p o n = refl
 
 module _ (m : Mine) where
-  same : clear (creaturesFault m) ≡ creaturesOk m
+  -- a fault is given exactly where the creatures are wrong
+  pub fault-clear : clear (creaturesFault m) ≡ creaturesOk m
   unfolding creaturesFault creaturesOk
-  same =
+  fault-clear =
       let each = all (creatureOk (m .grid)) (creatures m) in
       let room = roomFor MAX-ENEMIES (m .enemies) (m .count) in
       clear-in MAX-ENEMIES (creatureFault (m .grid) (m .enemies)) isBlank (m .enemies) (m .count)
@@ -107,5 +110,17 @@ module _ (m : Mine) where
       (λ h i l c. one-tells i l (right-to i (omega (arith, h .0, h .1)) c))
       (λ h c i l k. spare i l k (right-to (m .count) (omega (arith, h .0, h .1)) c))
 
+tells-cause : {m : Mine} {r : Refusal} → Tells m r → isCause (r .number) ≡ true
+tells-cause (tooMany _) = refl
+tells-cause (offGrid _ _ _ _) = refl
+tells-cause (wrongCell _ _ _ _ _) = refl
+tells-cause (heading _ _ _ _ _) = refl
+tells-cause (shared _ _ _ _ _) = refl
+tells-cause (spare _ _ _ _ _ _) = refl
+
 pub which : (m : Mine) → Which m
-which m = record { same = same m; told = tells m }
+unfolding refusalOf
+which m = record {
+  place = in-place-of-3 (cellsOk m) (playerOk m) (creaturesOk m) (numbersOk m) (creaturesFault m) (fault-clear m) (λ e. tells-cause (tells m (fault-clear m ∙ e)));
+  told = cause-given (Tells m) (cellsOk m) (playerOk m) (creaturesFault m) (numbersOk m) (tells m);
+}

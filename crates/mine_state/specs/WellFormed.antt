@@ -4,13 +4,15 @@ use mathlib.Core.List.{List, [], _∷_}
 use mathlib.Core.Path.{_≡_}
 use Prim.Native.Nat.{ℕ, _≤_}
 use lib.Dec.{leb, eqb}
-use lib.ListN.{length, drop}
+use lib.ListN.{length, take, drop}
 use Rattle.laws.specs.Lists.{all, any}
 use Rattle.found.specs.First.{number}
-use Rattle.refusal.specs.Refusal.{CELLS, PLAYER, CREATURES, NUMBERS, unless, _then_}
+use Rattle.refusal.specs.declared.Refusal.{Refusal}
+use Rattle.refusal.specs.Refusal.{CELLS, PLAYER, OFF-GRID, WRONG-CELL, HEADING, SHARED-CELL, NUMBERS, unless, _then_}
+use Rattle.refusal.specs.Faults.{faultIn}
 use Rattle.mine_state.specs.declared.Mine.{Mine}
 use Rattle.mine_state.specs.declared.Enemy.{Enemy}
-use Rattle.mine_state.specs.State.{AREA, MAX-ENEMIES, isCode, emptyAt, creatures, standsAt, firstAt, purse}
+use Rattle.mine_state.specs.State.{AREA, MAX-ENEMIES, isCode, onGrid, emptyAt, creatures, standsAt, firstAt, purse}
 
 -- 24 by 14 cells, codes 0 to 5; a falling mark per cell, free in value
 unfoldable pub cellsOk : Mine → Bool
@@ -42,6 +44,18 @@ creaturesOk m =
     && apart (creatures m)
     && all isBlank (drop (m .count) (m .enemies))
 
+-- the same by creature, of the one in the slot i: off the grid, on a wrong cell, its direction, a cell shared with an earlier creature
+unfoldable pub creatureFault : List ℕ → List Enemy → ℕ → Enemy → Refusal
+creatureFault g slots i e =
+    unless (onGrid (e .x) (e .y)) (OFF-GRID i)
+    then unless (emptyAt g (e .x) (e .y)) (WRONG-CELL i)
+    then unless (leb (e .dir) 3) (HEADING i)
+    then unless (not (any (standsAt (e .x) (e .y)) (take i slots))) (SHARED-CELL i)
+
+-- too many first, then by creature, a slot past the count last
+unfoldable pub creaturesFault : Mine → Refusal
+creaturesFault m = faultIn MAX-ENEMIES (creatureFault (m .grid) (m .enemies)) isBlank (m .enemies) (m .count)
+
 -- coins in hand plus coin cells at most 336; needed 1 to 336
 unfoldable pub numbersOk : Mine → Bool
 numbersOk m = leb (purse m) AREA && leb 1 (m .needed) && leb (m .needed) AREA
@@ -49,14 +63,14 @@ numbersOk m = leb (purse m) AREA && leb 1 (m .needed) && leb (m .needed) AREA
 unfoldable pub wellFormed : Mine → Bool
 wellFormed m = cellsOk m && playerOk m && creaturesOk m && numbersOk m
 
--- checked in the order 1, 2, 3, 4; the first that applies is given
-abbrev pub checked : Bool → Bool → Bool → Bool → ℕ
-checked cells player creatures numbers =
-    unless cells CELLS then unless player PLAYER then unless creatures CREATURES then unless numbers NUMBERS
+-- checked in the order 1, 2, the creatures' fault in place of 3, 4; the first that applies is given
+abbrev pub checked : Bool → Bool → Refusal → Bool → Refusal
+checked cells player fault numbers =
+    unless cells CELLS then unless player PLAYER then fault then unless numbers NUMBERS
 
--- the number of the refusal that a state gets, and 0 for none
-unfoldable pub refusalOf : Mine → ℕ
-refusalOf m = checked (cellsOk m) (playerOk m) (creaturesOk m) (numbersOk m)
+-- the refusal that a state gets
+unfoldable pub refusalOf : Mine → Refusal
+refusalOf m = checked (cellsOk m) (playerOk m) (creaturesFault m) (numbersOk m)
 
 -- what well-formedness says, part by part
 pub record WellFormed (m : Mine) : Type 0 where

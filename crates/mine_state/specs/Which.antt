@@ -1,16 +1,17 @@
--- Document 02 (ix): what is told of the creatures, and that it is told exactly where they are wrong.
-use mathlib.Core.Bool.{Bool, true, false}
+-- Document 02 (ix), 'Which creature is wrong': what a state gets in place of 3, and what that says.
+use mathlib.Core.Bool.{true, false}
 use mathlib.Core.Path.{_≡_}
 use Prim.Native.Nat.{ℕ, _≤_, _<_}
 use lib.ListN.{getD, take, drop}
 use Rattle.laws.specs.Lists.{all, any}
-use Rattle.refusal.specs.declared.Fault.{Fault}
-use Rattle.refusal.specs.Fault.{TOO-MANY, OFF-GRID, WRONG-CELL, HEADING, SHARED-CELL, SPARE-SLOT, clear, roomFor}
+use Rattle.refusal.specs.declared.Refusal.{Refusal}
+use Rattle.refusal.specs.Refusal.{TOO-MANY, OFF-GRID, WRONG-CELL, HEADING, SHARED-CELL, SPARE-SLOT}
+use Rattle.refusal.specs.Faults.{roomFor}
+use Rattle.refusal.specs.InPlace.{isCause, before, InPlaceOf3}
 use Rattle.mine_state.specs.declared.Mine.{Mine}
 use Rattle.mine_state.specs.declared.Enemy.{Enemy}
 use Rattle.mine_state.specs.State.{MAX-ENEMIES, onGrid, emptyAt, standsAt, blankSlot}
-use Rattle.mine_state.specs.WellFormed.{creatureOk, apart, isBlank, creaturesOk}
-use Rattle.mine_state.specs.Faults.{creaturesFault}
+use Rattle.mine_state.specs.WellFormed.{cellsOk, playerOk, creatureOk, apart, isBlank, creaturesOk, numbersOk, refusalOf}
 
 -- the slot i
 abbrev pub slotAt : Mine → ℕ → Enemy
@@ -22,7 +23,7 @@ pub record RightTo (m : Mine) (i : ℕ) : Type 0 where
   pub distinct : apart (take i (m .enemies)) ≡ true
 
 -- what each number says of the creature or slot that it names, and of those before
-pub data Tells (m : Mine) : Fault → Type 0 where
+pub data Tells (m : Mine) : Refusal → Type 0 where
   tooMany : roomFor MAX-ENEMIES (m .enemies) (m .count) ≡ false → Tells m TOO-MANY
   offGrid : (i : ℕ) → i < m .count → RightTo m i → onGrid (slotAt m i .x) (slotAt m i .y) ≡ false → Tells m (OFF-GRID i)
   wrongCell : (i : ℕ) → i < m .count → RightTo m i → onGrid (slotAt m i .x) (slotAt m i .y) ≡ true
@@ -34,7 +35,7 @@ pub data Tells (m : Mine) : Fault → Type 0 where
   spare : (i : ℕ) → m .count ≤ i → i < MAX-ENEMIES → RightTo m (m .count)
       → all isBlank (drop (m .count) (take i (m .enemies))) ≡ true → isBlank (slotAt m i) ≡ false → Tells m (SPARE-SLOT i)
 
--- a fault is told exactly where the creatures are wrong, and says what is
+-- a state gets a cause where it got 3, and the cause says what is wrong
 pub record Which (m : Mine) : Type 0 where
-  pub same : clear (creaturesFault m) ≡ creaturesOk m
-  pub told : clear (creaturesFault m) ≡ false → Tells m (creaturesFault m)
+  pub place : InPlaceOf3 (before (cellsOk m) (playerOk m) (creaturesOk m) (numbersOk m)) (refusalOf m)
+  pub told : isCause (refusalOf m .number) ≡ true → Tells m (refusalOf m)

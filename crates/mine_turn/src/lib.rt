@@ -216,7 +216,7 @@ pub fn pass_at(m: Mine, keys: &[u8], time: u32, first: u32, second: u32) -> Mine
     ensures { λ r. ⌜ r ≡ passAt m (now (keys .entry)) time first second ⌝ }
 {
     let no = check(m);
-    if no != refusal::NONE {
+    if no.number != refusal::NONE.number {
         return turn(first, second, no, Answer::GoingOn, m);
     }
     if m.won {

@@ -1,5 +1,5 @@
 -- The first fault over a list: where there is none, which one it is, and a turn of a loop that looks for it. Assumes nothing.
-use mathlib.Core.Bool.{Bool, true, false, cond, _&&_, and-assoc, and-true, and-false, true≢false}
+use mathlib.Core.Bool.{Bool, true, false, _&&_, and-assoc, and-true, and-false, true≢false}
 use mathlib.Core.List.{List, [], _∷_}
 use mathlib.Core.Logic.{⊎-elim}
 use mathlib.Core.Path.{_≡_, refl, sym, ap, ap₂, _∙_, subst}
@@ -12,58 +12,29 @@ use borrow.Author.Tests.{eqb-true, leb-true, eq-eqb, ne-eqb, le-leb, lt-leb}
 use lib.Seq.{getD-take, getD-drop, take-take, take-add, drop-at, length-take-le}
 use Rattle.laws.specs.Lists.{all}
 use Rattle.laws.proofs.Choice.{bool-cases, and-left, and-right}
-use Rattle.refusal.specs.declared.Fault.{Fault}
-use Rattle.refusal.specs.Fault.{NO-FAULT, TOO-MANY, SPARE-SLOT, isCause, clear, unless, _then_, firstFault, spareFault, roomFor, faultIn}
-
--- ---- one check, and two in order
-
-pub clear-unless : (b : Bool) (r : Fault) → clear r ≡ false → clear (unless b r) ≡ b
-clear-unless true r e = refl
-clear-unless false r e = e
-
-pub clear-then : (r s : Fault) → clear (r then s) ≡ (clear r && clear s)
-clear-then r s = go (clear r) refl
-  where
-    go : (b : Bool) → clear r ≡ b → clear (cond b s r) ≡ (b && clear s)
-    go true e = refl
-    go false e = e
-
-pub then-first : (r s : Fault) → clear r ≡ false → (r then s) ≡ r
-then-first r s e = rw e
-
-pub then-second : (r s : Fault) → clear r ≡ true → (r then s) ≡ s
-then-second r s e = rw e
-
--- what holds of each check's fault, where it is the first, holds of the one that is given
-module _ (P : Fault → Type 0) where
-  pub unless-given : (b : Bool) (r : Fault) → (b ≡ false → P r) → clear (unless b r) ≡ false → P (unless b r)
-  unless-given true r f e = absurd (true≢false e)
-  unless-given false r f e = f refl
-
-  pub then-given : (r s : Fault) → (clear r ≡ false → P r) → (clear r ≡ true → clear s ≡ false → P s) → clear (r then s) ≡ false → P (r then s)
-  then-given r s f g = go (clear r) refl
-    where
-      go : (b : Bool) → clear r ≡ b → clear (cond b s r) ≡ false → P (cond b s r)
-      go true q e = g q e
-      go false q e = f q
+use Rattle.refusal.specs.declared.Refusal.{Refusal}
+use Rattle.refusal.specs.Refusal.{NONE, TOO-MANY, SPARE-SLOT, clear, unless, _then_}
+use Rattle.refusal.specs.Faults.{firstFault, spareFault, roomFor, faultIn}
+use Rattle.refusal.proofs.Checks.{clear-unless, clear-then, then-given, unless-given}
 
 -- ---- over a list
 
-module _ {A : Type 0} (fault : ℕ → A → Fault) where
+module _ {A : Type 0} (fault : ℕ → A → Refusal) where
   -- A loop that looks for the first: over the elements from i on it is R.
-  module _ (l : List A) (i : ℕ) {R : Fault} (e : firstFault fault i (drop i l) ≡ R) where
-    pub fault-end : drop i l ≡ [] → NO-FAULT ≡ R
+  module _ (l : List A) (i : ℕ) {R : Refusal} (e : firstFault fault i (drop i l) ≡ R) where
+    pub fault-end : drop i l ≡ [] → NONE ≡ R
     unfolding firstFault
     fault-end h = rw h at e
 
-    module _ {a : A} (h : drop i l ≡ a ∷ drop (i + 1) l) where
-      pub fault-more : clear (fault i a) ≡ true → firstFault fault (i + 1) (drop (i + 1) l) ≡ R
+    -- where the element at i has the fault r
+    module _ {a : A} (h : drop i l ≡ a ∷ drop (i + 1) l) {r : Refusal} (q : r ≡ fault i a) where
+      pub fault-more : r .number ≡ 0 → firstFault fault (i + 1) (drop (i + 1) l) ≡ R
       unfolding firstFault
-      fault-more c = rw (h, c) at e
+      fault-more z = rw (h, sym q, eq-eqb (r .number) 0 z) at e
 
-      pub fault-found : clear (fault i a) ≡ false → fault i a ≡ R
+      pub fault-found : (r .number ≡ 0 → ⊥) → r ≡ R
       unfolding firstFault
-      fault-found c = rw (h, c) at e
+      fault-found z = rw (h, sym q, ne-eqb (r .number) 0 z) at e
 
   -- there is none among k + 1 elements where there is none among k, and none at the next
   pub clear-more : (l : List A) (i k : ℕ) (d : A) → k < length l
@@ -72,7 +43,7 @@ module _ {A : Type 0} (fault : ℕ → A → Fault) where
   clear-more [] i k d h = absurd (not-suc-le-zero h)
   clear-more (a ∷ l) i zero d h =
       let q : i ≡ i + 0 = omega arith in
-      clear-then (fault i a) NO-FAULT ∙ and-true (clear (fault i a)) ∙ ap (λ (n : ℕ). clear (fault n a)) q
+      clear-then (fault i a) NONE ∙ and-true (clear (fault i a)) ∙ ap (λ (n : ℕ). clear (fault n a)) q
   clear-more (a ∷ l) i (suc k) d h =
       let q : i + 1 + k ≡ i + suc k = omega arith in
       rw (
@@ -105,7 +76,7 @@ module _ {A : Type 0} (fault : ℕ → A → Fault) where
         within = omega arith;
         before = refl;
         here = subst (λ (n : ℕ). clear (fault n a) ≡ false) q c;
-        is = then-first (fault i a) (firstFault fault (i + 1) l) c ∙ ap (λ (n : ℕ). fault n a) q;
+        is = rw c (ap (λ (n : ℕ). fault n a) q);
       }
 
   first-later : (a : A) (l : List A) (i : ℕ) (d : A) → clear (fault i a) ≡ true → First l (i + 1) d → First (a ∷ l) i d
@@ -117,14 +88,14 @@ module _ {A : Type 0} (fault : ℕ → A → Fault) where
         within = omega (arith, f .within);
         before = rw c (f .before);
         here = subst (λ (n : ℕ). clear (fault n (getD l (f .k) d)) ≡ false) q (f .here);
-        is = then-second (fault i a) (firstFault fault (i + 1) l) c ∙ f .is ∙ ap (λ (n : ℕ). fault n (getD l (f .k) d)) q;
+        is = rw c (f .is ∙ ap (λ (n : ℕ). fault n (getD l (f .k) d)) q);
       }
 
   pub first-found : (l : List A) (i : ℕ) (d : A) → clear (firstFault fault i l) ≡ false → First l i d
   unfolding firstFault
   first-found [] i d e = absurd (true≢false e)
   first-found (a ∷ l) i d e =
-      ⊎-elim (λ c. first-later a l i d c (first-found l (i + 1) d (ap clear (sym (then-second (fault i a) (firstFault fault (i + 1) l) c)) ∙ e)))
+      ⊎-elim (λ c. first-later a l i d c (first-found l (i + 1) d (rw c at e)))
       (first-here a l i d) (bool-cases (clear (fault i a)))
 
 -- ---- over the slots
@@ -135,14 +106,16 @@ module _ {A : Type 0} (blank : A → Bool) where
   clear-spare = clear-each (spareFault blank) blank (λ i a. clear-unless (blank a) (SPARE-SLOT i) refl)
 
   -- A loop that looks for the first of them.
-  module _ (l : List A) (i : ℕ) {R : Fault} (e : firstFault (spareFault blank) i (drop i l) ≡ R) {a : A} (h : drop i l ≡ a ∷ drop (i + 1) l) where
+  module _ (l : List A) (i : ℕ) {R : Refusal} (e : firstFault (spareFault blank) i (drop i l) ≡ R) {a : A} (h : drop i l ≡ a ∷ drop (i + 1) l) where
     pub spare-more : blank a ≡ true → firstFault (spareFault blank) (i + 1) (drop (i + 1) l) ≡ R
-    spare-more b = fault-more (spareFault blank) l i e h (clear-unless (blank a) (SPARE-SLOT i) refl ∙ b)
+    unfolding firstFault
+    spare-more b = rw (h, b) at e
 
     pub spare-found : blank a ≡ false → SPARE-SLOT i ≡ R
-    spare-found b = rw b at (fault-found (spareFault blank) l i e h (clear-unless (blank a) (SPARE-SLOT i) refl ∙ b))
+    unfolding firstFault
+    spare-found b = rw (h, b) at e
 
-module _ {A : Type 0} (most : ℕ) (fault : ℕ → A → Fault) (blank : A → Bool) (slots : List A) (n : ℕ) where
+module _ {A : Type 0} (most : ℕ) (fault : ℕ → A → Refusal) (blank : A → Bool) (slots : List A) (n : ℕ) where
   -- what there is room for
   abbrev Fits : Type 0
   Fits = (length slots ≡ most) × (n ≤ most)
@@ -171,17 +144,17 @@ module _ {A : Type 0} (most : ℕ) (fault : ℕ → A → Fault) (blank : A → 
   unfolding faultIn
   in-many h = rw (lt-leb n most h, and-false)
 
-  module _ (full : length slots ≡ most) (few : n ≤ most) {r : Fault} (e : r ≡ firstFault fault 0 (take n slots)) where
+  module _ (full : length slots ≡ most) (few : n ≤ most) {r : Refusal} (e : r ≡ firstFault fault 0 (take n slots)) where
     pub in-creature : (r .number ≡ 0 → ⊥) → r ≡ faultIn most fault blank slots n
     unfolding faultIn
     in-creature z = rw (eq-eqb (length slots) most full, le-leb n most few, sym e, ne-eqb (r .number) 0 z)
 
-    pub in-slot : r .number ≡ 0 → {s : Fault} → s ≡ firstFault (spareFault blank) n (drop n slots) → s ≡ faultIn most fault blank slots n
+    pub in-slot : r .number ≡ 0 → {s : Refusal} → s ≡ firstFault (spareFault blank) n (drop n slots) → s ≡ faultIn most fault blank slots n
     unfolding faultIn
     in-slot z q = rw (eq-eqb (length slots) most full, le-leb n most few, sym e, eq-eqb (r .number) 0 z) q
 
   -- what holds of each fault of the slots, where it is the first, holds of the one that is given
-  module _ (P : Fault → Type 0) (d : A)
+  module _ (P : Refusal → Type 0) (d : A)
       (many : roomFor most slots n ≡ false → P TOO-MANY)
       (one : Fits → (i : ℕ) → i < n → clear (firstFault fault 0 (take i slots)) ≡ true → clear (fault i (getD slots i d)) ≡ false → P (fault i (getD slots i d)))
       (spare : Fits → clear (firstFault fault 0 (take n slots)) ≡ true → (i : ℕ) → n ≤ i → i < most

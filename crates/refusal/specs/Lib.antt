@@ -1,2 +1,3 @@
 pub mod Refusal
-pub mod Fault
+pub mod Faults
+pub mod InPlace

@@ -4,8 +4,7 @@ use borrow.Author.Needs.{needs}
 use Rattle.laws.proofs.Lists.{mapped}
 use Rattle.refusal.proofs.Faults.{in-many, in-creature, in-slot}
 use Rattle.cutter_ground.specs.Movers.{MAX-ENEMIES}
-use Rattle.cutter_state.specs.WellFormed.{isBlank}
-use Rattle.cutter_state.specs.Faults.{creatureFault}
+use Rattle.cutter_state.specs.WellFormed.{isBlank, creatureFault}
 use Rattle.cutter_check.proofs.cause.Statement.{statement}
 use Rattle.cutter_check.proofs.cause.Tie as tie
 

@@ -5,7 +5,7 @@ use lib.ListN.{drop}
 use borrow.Author.Needs.{needs}
 use borrow.Author.Tests.{not-true, not-false}
 use Rattle.laws.proofs.Lists.{mapped, mapped-below, drop-one, drop-end}
-use Rattle.refusal.specs.Fault.{firstFault, spareFault}
+use Rattle.refusal.specs.Faults.{firstFault, spareFault}
 use Rattle.refusal.proofs.Faults.{spare-more, spare-found, fault-end}
 use Rattle.cutter_ground.specs.Movers.{MAX-ENEMIES}
 use Rattle.cutter_state.specs.WellFormed.{isBlank}

@@ -1,7 +1,7 @@
-use mathlib.Core.Path.{_≡_, sym, _∙_}
+use mathlib.Core.Path.{sym, _∙_}
 use borrow.Author.Needs.{needs}
 use borrow.Author.Tests.{not-true, not-false}
-use Rattle.cutter_state.specs.Faults.{creatureFault}
+use Rattle.cutter_state.specs.WellFormed.{creatureFault}
 use Rattle.cutter_check.proofs.mover_fault.Statement.{statement}
 use Rattle.cutter_check.proofs.mover_fault.Tie as tie
 

@@ -4,8 +4,7 @@ use borrow.Author.Needs.{needs}
 use Rattle.laws.proofs.Lists.{mapped}
 use Rattle.refusal.proofs.Faults.{in-many, in-creature, in-slot}
 use Rattle.mine_state.specs.State.{MAX-ENEMIES}
-use Rattle.mine_state.specs.WellFormed.{isBlank}
-use Rattle.mine_state.specs.Faults.{creatureFault}
+use Rattle.mine_state.specs.WellFormed.{isBlank, creatureFault}
 use Rattle.mine_check.proofs.cause.Statement.{statement}
 use Rattle.mine_check.proofs.cause.Tie as tie
 

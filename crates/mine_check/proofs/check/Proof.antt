@@ -1,17 +1,11 @@
-use mathlib.Core.Bool.{Bool}
-use mathlib.Core.Path.{_≡_, sym, _∙_}
-use lib.ListN.{length}
 use borrow.Author.Needs.{needs}
-use borrow.Author.Tests.{eq-eqb, not-true, not-false}
-use Rattle.laws.specs.Lists.{all}
 use Rattle.laws.proofs.Lists.{mapped}
-use Rattle.mine_state.specs.State.{MAX-ENEMIES, isCode}
-use Rattle.mine_state.specs.WellFormed.{cellsOk, creaturesOk, numbersOk, refusalOf}
-use Rattle.mine_state.proofs.Facts.{cells-ok}
+use Rattle.mine_check.proofs.Answers.{Sized, no-cells, no-player, no-creatures, no-numbers, all-right}
 use Rattle.mine_check.proofs.check.Statement.{statement}
 use Rattle.mine_check.proofs.check.Tie as tie
 use Rattle.mine_check.proofs.check.Reads as reads
 use Rattle.mine_check.proofs.check.Lts as lts
+use Rattle.mine_check.proofs.cause.Reads as cause-reads
 use Rattle.mine_check.proofs.codes_ok.Reads as codes-ok-reads
 use Rattle.mine_check.proofs.creatures_ok.Reads as creatures-ok-reads
 use Rattle.mine_check.proofs.empty_at.Reads as empty-at-reads
@@ -26,81 +20,60 @@ Began = lts.Start (
   empty-at-reads.Learnt,
   creatures-ok-reads.Asked,
   creatures-ok-reads.Learnt,
+  cause-reads.Asked,
+  cause-reads.Learnt,
   numbers-ok-reads.Asked,
   numbers-ok-reads.Learnt,
 ) reads.Pre reads.Post
 
-full : (s : Began) → length (s .args .m .enemies) ≡ MAX-ENEMIES
-full s = search (needs, mapped)
-
-cells : (s : Began) {r : Bool} → r ≡ all isCode (s .args .m .grid) → cellsOk (s .args .m) ≡ r
-cells s e = cells-ok (s .args .m) (search needs) (search needs) e
+sized : (s : Began) → Sized (s .args .m)
+sized s = record { cells = search needs; marks = search needs; slots = search (needs, mapped) }
 
 returns : tie.Need-returns
-unfolding refusalOf
 returns c =
     let k = c .before in
     let s = k .before .before .before .before in
-    simp (cells s (k .codes-ok .ensures) ∙ not-true _ (c .if1 .taken))
+    no-cells (s .args .m) (sized s) (k .codes-ok .ensures) (c .if1 .taken)
 
 returns-2 : tie.Need-returns-2
-unfolding refusalOf
 returns-2 c =
     let p = c .before in
-    let k = p .before .before .before in
+    let a = p .before .before in
+    let k = a .before in
     let s = k .before .before .before .before in
-    simp (cells s (k .codes-ok .ensures) ∙ not-false _ (p .before .before .if1 .left), sym (p .empty-at .ensures) ∙ not-true _ (c .if2 .taken))
+    no-player (s .args .m) (sized s) (k .codes-ok .ensures) (a .if1 .left) (p .empty-at .ensures) (c .if2 .taken)
 
 returns-3 : tie.Need-returns-3
-unfolding refusalOf creaturesOk
 returns-3 c =
-    let e = c .before in
-    let p = e .before .before .before in
-    let k = p .before .before .before in
+    let t = c .before .before in
+    let b = t .before .before .before in
+    let a = b .before .before .before in
+    let k = a .before in
     let s = k .before .before .before .before in
-    simp (
-      cells s (k .codes-ok .ensures) ∙ not-false _ (p .before .before .if1 .left),
-      sym (p .empty-at .ensures)
-          ∙ not-false _ (e .before .before .if2 .left),
-      eq-eqb _ _ (full s),
-      sym (e .creatures-ok .ensures) ∙ not-true _ (c .if3 .taken),
-    )
+    no-creatures (s .args .m) (sized s) (k .codes-ok .ensures) (a .if1 .left) (b .before .empty-at .ensures) (b .if2 .left)
+    (t .before .creatures-ok .ensures) (t .if3 .taken) (c .cause .ensures)
 
 returns-4 : tie.Need-returns-4
-unfolding refusalOf creaturesOk numbersOk
 returns-4 c =
     let n = c .before in
-    let e = n .before .before .before in
-    let p = e .before .before .before in
-    let k = p .before .before .before in
+    let t = n .before .before in
+    let b = t .before .before .before in
+    let a = b .before .before .before in
+    let k = a .before in
     let s = k .before .before .before .before in
-    simp (
-      cells s (k .codes-ok .ensures) ∙ not-false _ (p .before .before .if1 .left),
-      sym (p .empty-at .ensures)
-          ∙ not-false _ (e .before .before .if2 .left),
-      eq-eqb _ _ (full s),
-      sym (e .creatures-ok .ensures)
-          ∙ not-false _ (n .before .before .if3 .left),
-      sym (n .numbers-ok .ensures) ∙ not-true _ (c .if4 .taken),
-    )
+    no-numbers (s .args .m) (sized s) (k .codes-ok .ensures) (a .if1 .left) (b .before .empty-at .ensures) (b .if2 .left)
+    (t .before .creatures-ok .ensures) (t .if3 .left) (n .numbers-ok .ensures) (c .if4 .taken)
 
 returns-5 : tie.Need-returns-5
-unfolding refusalOf creaturesOk numbersOk
 returns-5 c =
     let n = c .before in
-    let e = n .before .before .before in
-    let p = e .before .before .before in
-    let k = p .before .before .before in
+    let t = n .before .before in
+    let b = t .before .before .before in
+    let a = b .before .before .before in
+    let k = a .before in
     let s = k .before .before .before .before in
-    simp (
-      cells s (k .codes-ok .ensures) ∙ not-false _ (p .before .before .if1 .left),
-      sym (p .empty-at .ensures)
-          ∙ not-false _ (e .before .before .if2 .left),
-      eq-eqb _ _ (full s),
-      sym (e .creatures-ok .ensures)
-          ∙ not-false _ (n .before .before .if3 .left),
-      sym (n .numbers-ok .ensures) ∙ not-false _ (c .if4 .left),
-    )
+    all-right (s .args .m) (sized s) (k .codes-ok .ensures) (a .if1 .left) (b .before .empty-at .ensures) (b .if2 .left)
+    (t .before .creatures-ok .ensures) (t .if3 .left) (n .numbers-ok .ensures) (c .if4 .left)
 
 pub check-spec : {M : Type 1} → statement M
 check-spec =
@@ -110,6 +83,7 @@ check-spec =
     returns
     (λ c κs. search needs)
     returns-2
+    (λ c κs. search needs)
     (λ c κs. search needs)
     returns-3
     (λ c κs. search needs)

@@ -1,8 +1,7 @@
-use mathlib.Core.Bool.{true, false}
-use mathlib.Core.Path.{_≡_, sym, _∙_}
+use mathlib.Core.Path.{sym, _∙_}
 use borrow.Author.Needs.{needs}
 use borrow.Author.Tests.{le-leb, lt-leb, not-true, not-false}
-use Rattle.mine_state.specs.Faults.{creatureFault}
+use Rattle.mine_state.specs.WellFormed.{creatureFault}
 use Rattle.mine_check.proofs.creature_fault.Statement.{statement}
 use Rattle.mine_check.proofs.creature_fault.Tie as tie
 

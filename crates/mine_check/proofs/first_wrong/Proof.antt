@@ -1,14 +1,13 @@
-use mathlib.Core.Path.{_≡_, refl, sym, _∙_, ap}
-use Prim.Native.Nat.{ℕ, _≤_, _-_}
+use mathlib.Core.Path.{_≡_, refl}
+use Prim.Native.Nat.{_-_}
 use native.Mathlib.Omega.{arith}
 use lib.ListN.{length, take, drop}
 use borrow.Author.Needs.{needs}
-use borrow.Author.Tests.{eq-eqb, ne-eqb}
 use Rattle.laws.proofs.Lists.{mapped, taken-one, taken-end}
-use Rattle.refusal.specs.Fault.{clear, firstFault}
+use Rattle.refusal.specs.Faults.{firstFault}
 use Rattle.refusal.proofs.Faults.{fault-more, fault-found, fault-end}
 use Rattle.mine_state.specs.State.{MAX-ENEMIES}
-use Rattle.mine_state.specs.Faults.{creatureFault}
+use Rattle.mine_state.specs.WellFormed.{creatureFault}
 use Rattle.mine_check.proofs.first_wrong.Statement.{statement}
 use Rattle.mine_check.proofs.first_wrong.Tie as tie
 
@@ -33,10 +32,9 @@ returns c =
     let l = s .args .t2 in
     let n = s .args .n in
     let eight : length l ≡ MAX-ENEMIES = search (needs, mapped) in
-    f .creature-fault .ensures
-    ∙ fault-found (creatureFault (s .args .grid .now) l) (take n l) (k .loop .i) (k .loop .inv)
+    fault-found (creatureFault (s .args .grid .now) l) (take n l) (k .loop .i) (k .loop .inv)
     (taken-one n l (k .loop .i) _ (omega arith) (omega arith))
-    (ap clear (sym (f .creature-fault .ensures)) ∙ ne-eqb _ 0 (c .if1 .taken))
+    (f .creature-fault .ensures) (c .if1 .taken)
 
 loop-again : tie.Need-loop-again Inv-loop μ-loop
 loop-again c =
@@ -48,7 +46,7 @@ loop-again c =
     let eight : length l ≡ MAX-ENEMIES = search (needs, mapped) in
     fault-more (creatureFault (s .args .grid .now) l) (take n l) (k .loop .i) (k .loop .inv)
     (taken-one n l (k .loop .i) _ (omega arith) (omega arith))
-    (ap clear (sym (f .creature-fault .ensures)) ∙ eq-eqb _ 0 (c .if1 .left))
+    (f .creature-fault .ensures) (c .if1 .left)
 
 returns-2 : tie.Need-returns-2 Inv-loop μ-loop
 returns-2 c =

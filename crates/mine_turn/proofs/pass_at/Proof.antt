@@ -1,6 +1,7 @@
 -- `mine_turn::pass_at` meets its contract. Assumes nothing.
-use mathlib.Core.Path.{sym, _∙_}
+use mathlib.Core.Path.{_∙_}
 use borrow.Author.Needs.{needs}
+use Rattle.refusal.proofs.Calls.{none-of}
 use Rattle.mine_state.proofs.Facts.{accepted}
 use Rattle.mine_pass.proofs.Answers.{refused-pass, won-pass, dead-pass, after-keys}
 use Rattle.mine_turn.proofs.pass_at.Statement.{statement}
@@ -8,33 +9,37 @@ use Rattle.mine_turn.proofs.pass_at.Tie as tie
 
 returns : tie.Need-returns
 returns c =
-    let k = c .before .before in
+    let i = c .before in
+    let k = i .before .before .before in
     let a = k .before .before .args in
-    c .turn .ensures ∙ refused-pass (a .m) (a .keys .now) (a .time) (a .first) (a .second) (k .check .ensures) (c .before .if1 .taken)
+    c .turn .ensures ∙ refused-pass (a .m) (a .keys .now) (a .time) (a .first) (a .second) (k .check .ensures) (i .if1 .taken)
 
 returns-2 : tie.Need-returns-2
 returns-2 c =
-    let k = c .before .before .before in
+    let i = c .before .before in
+    let k = i .before .before .before in
     let a = k .before .before .args in
-    c .turn2 .ensures ∙ won-pass (a .m) (a .keys .now) (a .time) (a .first) (a .second) (k .check .ensures) (c .before .before .if1 .left) (c .before .if2 .taken)
+    c .turn2 .ensures ∙ won-pass (a .m) (a .keys .now) (a .time) (a .first) (a .second) (k .check .ensures) (i .if1 .left) (c .before .if2 .taken)
 
 returns-3 : tie.Need-returns-3
 returns-3 c =
-    let k = c .before .before .before .before in
+    let i = c .before .before .before in
+    let k = i .before .before .before in
     let a = k .before .before .args in
-    c .turn3 .ensures ∙ dead-pass (a .m) (a .keys .now) (a .time) (a .first) (a .second) (k .check .ensures) (c .before .before .before .if1 .left)
+    c .turn3 .ensures ∙ dead-pass (a .m) (a .keys .now) (a .time) (a .first) (a .second) (k .check .ensures) (i .if1 .left)
     (c .before .before .if2 .left) (c .before .if3 .taken)
 
 go-on-requires : tie.Need-go-on-requires
 go-on-requires c κs =
-    let k = c .before .before .before in
-    accepted _ (sym (k .check .ensures) ∙ c .before .before .if1 .left)
+    let i = c .before .before in
+    accepted _ (none-of (i .before .before .before .check .ensures) (i .if1 .left))
 
 returns-4 : tie.Need-returns-4
 returns-4 c =
-    let k = c .before .before .before .before in
+    let i = c .before .before .before in
+    let k = i .before .before .before in
     let a = k .before .before .args in
-    c .«go-on» .ensures ∙ after-keys (a .m) (a .keys .now) (a .time) (a .first) (a .second) (k .check .ensures) (c .before .before .before .if1 .left)
+    c .«go-on» .ensures ∙ after-keys (a .m) (a .keys .now) (a .time) (a .first) (a .second) (k .check .ensures) (i .if1 .left)
     (c .before .before .if2 .left) (c .before .if3 .left)
 
 pub pass-at-spec : {M : Type 1} → statement M

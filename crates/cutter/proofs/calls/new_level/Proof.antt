@@ -12,7 +12,7 @@ use Rattle.cutter.proofs.calls.new_level.Tie as tie
 returns : tie.Need-returns
 unfolding levelCall
 returns c =
-    let k = c .before in
+    let k = c .before .before .before in
     let a = k .before .before .args in
     turned-away-first (refused (a .c)) (answered (freshLevel (a .c) (a .draws .now))) (k .check .ensures) _ (c .if1 .taken)
 
@@ -25,7 +25,7 @@ returns-2 : tie.Need-returns-2
 unfolding levelCall
 returns-2 c =
     let d = c .before .before in
-    let k = d .before .before .before in
+    let k = d .before .before .before .before .before in
     let a = k .before .before .args in
     let ok : drawsOk (a .draws .now) (creaturesOf (a .c .level)) ≡ true = ap (drawsOk (a .draws .now)) (sym (d .before .«creatures-of» .ensures))
     ∙ sym (d .«draws-ok» .ensures) ∙ c .before .if2 .taken in
@@ -36,7 +36,7 @@ returns-3 : tie.Need-returns-3
 unfolding levelCall
 returns-3 c =
     let d = c .before in
-    let k = d .before .before .before in
+    let k = d .before .before .before .before .before in
     let a = k .before .before .args in
     let no : drawsOk (a .draws .now) (creaturesOf (a .c .level)) ≡ false = ap (drawsOk (a .draws .now)) (sym (d .before .«creatures-of» .ensures))
     ∙ sym (d .«draws-ok» .ensures) ∙ c .if2 .left in
