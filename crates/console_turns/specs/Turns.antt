@@ -6,7 +6,8 @@ use Prim.Native.Nat.{ℕ, _+_, _-_, _*_, _%_, _≤_}
 use lib.Dec.{eqb}
 use lib.ListN.{length, take}
 use Rattle.laws.specs.Lists.{any}
-use Rattle.refusal.specs.Refusal.{NONE}
+use Rattle.refusal.specs.declared.Refusal.{Refusal}
+use Rattle.refusal.specs.Refusal.{clear}
 use Rattle.answer.specs.declared.Answer.{Answer}
 use Rattle.answer.specs.Answer.{GOING-ON, QUIT, numberOf}
 use Rattle.console_keys.specs.Keys.{NEW}
@@ -28,8 +29,8 @@ use Rattle.controls.specs.Keys.{KEY-QUIT}
 abbrev pub REFUSED : ℕ
 REFUSED = 5
 
-unfoldable pub standing : ℕ → Answer → ℕ
-standing refusal answer = cond (eqb refusal NONE) (numberOf answer) REFUSED
+unfoldable pub standing : Refusal → Answer → ℕ
+standing refusal answer = cond (clear refusal) (numberOf answer) REFUSED
 
 -- whether a key is among those pressed
 abbrev pub pressedIn : List ℕ → ℕ → Bool
@@ -76,7 +77,7 @@ DrawsFit = (n : ℕ) (bytes : List ℕ) → DRAWS-EACH * n ≤ length bytes → 
 -- ---- Block Cutter
 
 abbrev pub roundAt : CutterAnswer → ℕ → CutterPlay
-roundAt a time = record { game = a .game; first = time; second = time; stands = cond (eqb (a .refusal) NONE) GOING-ON REFUSED }
+roundAt a time = record { game = a .game; first = time; second = time; stands = cond (clear (a .refusal)) GOING-ON REFUSED }
 
 unfoldable pub cutterStarted : List ℕ → ℕ → CutterPlay
 cutterStarted draws time = roundAt (roundCall draws) time

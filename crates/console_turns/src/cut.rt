@@ -69,7 +69,8 @@ pub fn cutter_start(draws: &[u8], time: u32) -> CutterPlay
         second: marks.second,
         stands: GOING_ON,
     };
-    if round.refusal == refusal::NONE {
+    let no = round.refusal;
+    if no.number == refusal::NONE.number {
         return p;
     }
     p.stands = REFUSED;

@@ -34,7 +34,7 @@ pub const REFUSED: u8 = 5;
 fn stands(no: Refusal, said: Answer) -> u8
     ensures { λ r. ⌜ r ≡ standing no said ⌝ }
 {
-    if no == refusal::NONE {
+    if no.number == refusal::NONE.number {
         return answer::number(said);
     }
     REFUSED

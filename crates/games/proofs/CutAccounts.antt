@@ -5,7 +5,7 @@ use mathlib.Core.Path.{_≡_, refl, sym, ap, subst, _∙_}
 use Prim.Native.Nat.{ℕ, zero, suc, _+_}
 use native.Mathlib.Omega.{arith}
 use lib.ListN.{replicate}
-use Rattle.refusal.specs.Refusal.{NONE, DRAWS, unless, _then_}
+use Rattle.refusal.specs.Refusal.{DRAWS, unless, _then_}
 use Rattle.refusal.proofs.Calls.{answered-by}
 use Rattle.cutter_state.specs.declared.Cutter.{Cutter}
 use Rattle.cutter_state.specs.Change.{withLevel, withLives}
@@ -94,7 +94,7 @@ one = 9 ∷ 9 ∷ 1 ∷ 1 ∷ []
 abbrev start : Cutter
 start = withLives (withLevel zeros FIRST-LEVEL) MAX-LIVES
 
-pub one-goes : roundCall one .refusal ≡ NONE
+pub one-goes : roundCall one .refusal .number ≡ 0
 unfolding roundCall drawsOk inRange
 one-goes = refl
 
@@ -136,7 +136,7 @@ by-p11 : (p : Play) → WellFormed (p .game) → p .game .level ≡ 2 → Accoun
 by-p11 p w l =
     let a = two-called (p .game) w l in
     let e = by-level p ∙ game a in
-    let f = subst Fresh (sym (by-level p)) (call-fresh (p .game) two (ap (λ (x : CutterAnswer). x .refusal) a)) in
+    let f = subst Fresh (sym (by-level p)) (call-fresh (p .game) two (ap (λ (x : CutterAnswer). x .refusal .number) a)) in
     account (called p (Level two) .play) (p .game) two e f 930 1 1 (Cut.p11 (p .game) 1 1 1 1 l .0) (Cut.p11-count (p .game) 1 1 1 1 l)
     (f .creatures ∙ ap (λ (s : Cutter). creaturesOf (s .level)) e ∙ ap creaturesOf (fresh-level (p .game) two ∙ l))
 

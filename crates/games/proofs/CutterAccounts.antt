@@ -5,7 +5,6 @@ use mathlib.Core.Path.{_≡_, sym, ap, subst, _∙_}
 use Prim.Native.Nat.{ℕ, _+_}
 use borrow.Author.Tests.{not-true, eqb-true}
 use Rattle.laws.proofs.Choice.{and-left, and-right}
-use Rattle.refusal.specs.Refusal.{NONE}
 use Rattle.refusal.proofs.Calls.{answered-by}
 use Rattle.cutter_state.specs.WellFormed.{WellFormed}
 use Rattle.cutter_keeps.specs.Kept.{Fresh}
@@ -23,9 +22,9 @@ use Rattle.games.proofs.CutterCalls.{sweeps-formed, tick-formed, respaw
 called-fresh : (p : Play) (k : CutterCall) → called p k .starts ≡ true → Fresh (called p k .play .game)
 unfolding called
 called-fresh p (Round draws) e =
-    let z = eqb-true (roundCall draws .refusal) NONE e in
+    let z = eqb-true (roundCall draws .refusal .number) 0 e in
     subst Fresh (sym (answered-by (λ _. p .game) (roundCall draws .game) (roundCall draws .refusal) z)) (round-fresh draws z)
-called-fresh p (Level draws) e = call-fresh (p .game) draws (eqb-true (levelCall (p .game) draws .refusal) NONE e)
+called-fresh p (Level draws) e = call-fresh (p .game) draws (eqb-true (levelCall (p .game) draws .refusal .number) 0 e)
 called-fresh p (Direction dir) e = absurd (false≢true e)
 called-fresh p Step e = absurd (false≢true e)
 called-fresh p StepBySweeps e = absurd (false≢true e)

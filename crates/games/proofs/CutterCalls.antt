@@ -2,13 +2,14 @@
 -- answers with is well formed. Assumes nothing.
 use mathlib.Core.Bool.{Bool, true, false, cond, not, _&&_, false≢true}
 use mathlib.Core.List.{List}
-use mathlib.Core.Path.{_≡_, refl, sym, subst, _∙_}
+use mathlib.Core.Path.{_≡_, refl, sym, subst, _∙_, ap}
 use Prim.Native.Nat.{ℕ}
 use native.Mathlib.Omega.{arith}
 use borrow.Author.Tests.{not-true, eqb-true, eq-eqb, ne-eqb}
 use lib.Dec.{eqb, leb}
 use Rattle.laws.proofs.Choice.{cond-both, and-left, and-right}
-use Rattle.refusal.specs.Refusal.{NONE, COMMAND, DRAWS, unless, _then_, refusedOr}
+use Rattle.refusal.specs.declared.Refusal.{Refusal}
+use Rattle.refusal.specs.Refusal.{COMMAND, DRAWS, unless, _then_, refusedOr, clear}
 use Rattle.refusal.proofs.Calls.{then-none, unless-none, answered-by, refused-or-answered}
 use Rattle.answer.specs.declared.Answer.the-variants.{GoingOn}
 use Rattle.cutter_state.specs.declared.Cutter.{Cutter}
@@ -40,20 +41,20 @@ use Rattle.controls.specs.Keys.{LEFT}
 
 -- ---- a fresh level
 
-pub round-fresh : (draws : List ℕ) → roundCall draws .refusal ≡ NONE → Fresh (roundCall draws .game)
+pub round-fresh : (draws : List ℕ) → roundCall draws .refusal .number ≡ 0 → Fresh (roundCall draws .game)
 unfolding roundCall
 round-fresh draws =
     let s : Cutter = withLives (withLevel zeros FIRST-LEVEL) MAX-LIVES in
     let ok : Bool = drawsOk draws (creaturesOf FIRST-LEVEL) in
-    refused-or-answered (refused zeros) (answered (freshLevel s draws)) (λ (a : CutterAnswer). a .refusal ≡ NONE → Fresh (a .game)) (unless ok DRAWS)
+    refused-or-answered (refused zeros) (answered (freshLevel s draws)) (λ (a : CutterAnswer). a .refusal .number ≡ 0 → Fresh (a .game)) (unless ok DRAWS)
     (λ some none. absurd (some none))
     (λ e _. level-fresh s draws (omega arith) (omega arith) (omega arith) (unless-none ok DRAWS (omega arith) e))
 
-pub call-fresh : (c : Cutter) (draws : List ℕ) → levelCall c draws .refusal ≡ NONE → Fresh (levelCall c draws .game)
+pub call-fresh : (c : Cutter) (draws : List ℕ) → levelCall c draws .refusal .number ≡ 0 → Fresh (levelCall c draws .game)
 unfolding levelCall
 call-fresh c draws =
     let ok : Bool = drawsOk draws (creaturesOf (c .level)) in
-    refused-or-answered (refused c) (answered (freshLevel c draws)) (λ (a : CutterAnswer). a .refusal ≡ NONE → Fresh (a .game)) (refusalOf c then unless ok DRAWS)
+    refused-or-answered (refused c) (answered (freshLevel c draws)) (λ (a : CutterAnswer). a .refusal .number ≡ 0 → Fresh (a .game)) (refusalOf c then unless ok DRAWS)
     (λ some none. absurd (some none))
     (λ e _.
     (let two = then-none (refusalOf c) (unless ok DRAWS) e in
@@ -63,15 +64,15 @@ call-fresh c draws =
 -- ---- a call that starts no level
 
 module _ (c : Cutter) (w : WellFormed c) where
-  pub round-refused : (draws : List ℕ) → eqb (roundCall draws .refusal) NONE ≡ false → Kept c (refusedOr (roundCall draws .refusal) (λ _. c) (roundCall draws .game))
+  pub round-refused : (draws : List ℕ) → clear (roundCall draws .refusal) ≡ false → Kept c (refusedOr (roundCall draws .refusal) (λ _. c) (roundCall draws .game))
   round-refused draws e =
-      let n : ℕ = roundCall draws .refusal in
-      refused-or-answered (λ _. c) (roundCall draws .game) (Kept c) n (λ _. kept-self w) (λ z. absurd (false≢true (sym e ∙ eq-eqb n NONE z)))
+      let n : Refusal = roundCall draws .refusal in
+      refused-or-answered (λ _. c) (roundCall draws .game) (Kept c) n (λ _. kept-self w) (λ z. absurd (false≢true (sym e ∙ eq-eqb (n .number) 0 z)))
 
-  pub level-refused : (draws : List ℕ) → eqb (levelCall c draws .refusal) NONE ≡ false → Kept c (levelCall c draws .game)
+  pub level-refused : (draws : List ℕ) → clear (levelCall c draws .refusal) ≡ false → Kept c (levelCall c draws .game)
   unfolding levelCall
   level-refused draws =
-      refused-or-answered (refused c) (answered (freshLevel c draws)) (λ (a : CutterAnswer). eqb (a .refusal) NONE ≡ false → Kept c (a .game))
+      refused-or-answered (refused c) (answered (freshLevel c draws)) (λ (a : CutterAnswer). clear (a .refusal) ≡ false → Kept c (a .game))
       (refusalOf c then unless (drawsOk draws (creaturesOf (c .level))) DRAWS)
       (λ _ _. kept-self w)
       (λ _ e. absurd (false≢true (sym e)))
@@ -86,7 +87,7 @@ module _ (c : Cutter) (w : WellFormed c) where
 
   -- a call that only the state can have refused
   plays : (a : CutterAnswer) → refusedOr (refusalOf c) (refused c) a ≡ a
-  plays a = answered-by (refused c) a (refusalOf c) (well-formed-none c (from-facts c w))
+  plays a = answered-by (refused c) a (refusalOf c) (ap (λ (r : Refusal). r .number) (well-formed-none c (from-facts c w)))
 
   pub step-plays : stepCall c ≡ made (stepMade c)
   unfolding stepCall
@@ -102,7 +103,7 @@ module _ (c : Cutter) (w : WellFormed c) where
 
   -- as the accounts count it
   abbrev Counted : CutterAnswer → Type 0
-  Counted a = Accounts c (a .game) (cond (eqb (a .refusal) NONE) (stepClaims c) 0) (cond (eqb (a .refusal) NONE) (stepLoses c) 0)
+  Counted a = Accounts c (a .game) (cond (clear (a .refusal)) (stepClaims c) 0) (cond (clear (a .refusal)) (stepLoses c) 0)
 
   pub step-counted : Counted (stepCall c)
   step-counted = subst Counted (sym step-plays) (step-accounts c w)
@@ -121,10 +122,10 @@ module _ (c : Cutter) (w : WellFormed c) where
 -- ---- the pass
 
 abbrev goes : CutterTurn → Bool
-goes t = eqb (t .passed .refusal) NONE
+goes t = clear (t .passed .refusal)
 
 abbrev Goes : CutterTurn → Type 0
-Goes t = t .passed .refusal ≡ NONE
+Goes t = t .passed .refusal .number ≡ 0
 
 module _ (c : Cutter) (keys draws : List ℕ) (time first second : ℕ) where
   abbrev on : CutterTurn
@@ -141,7 +142,7 @@ module _ (c : Cutter) (keys draws : List ℕ) (time first second : ℕ) where
       (λ _. cond-both Goes (c .«won_level») _ _ (λ _. refl) (λ _. cond-both Goes (played c keys .quit) _ _ (λ _. refl) (λ _. refl)))
 
   -- what holds of a pass refused by a number, and of one that goes on, holds of a pass
-  by-pass : (P : CutterTurn → Type 0) → ((n : ℕ) → (n ≡ NONE → ⊥) → P (still first second n GoingOn c)) → (passRefusal c draws ≡ NONE → P on) → P t
+  by-pass : (P : CutterTurn → Type 0) → ((n : Refusal) → (n .number ≡ 0 → ⊥) → P (still first second n GoingOn c)) → (passRefusal c draws .number ≡ 0 → P on) → P t
   unfolding passAt
   by-pass P f g = refused-or-answered (λ n. still first second n GoingOn c) on P (passRefusal c draws) (f (passRefusal c draws)) g
 
@@ -151,10 +152,10 @@ module _ (c : Cutter) (keys draws : List ℕ) (time first second : ℕ) where
   pub pass-called : WellFormed c → (goes t && levelDue c) ≡ false → Accounted t
   pass-called w =
       by-pass (λ (t : CutterTurn). (goes t && levelDue c) ≡ false → Accounted t)
-      (λ n some _. rw (ne-eqb n NONE some) (kept-accounts (kept-self w)))
+      (λ n some _. rw (ne-eqb (n .number) 0 some) (kept-accounts (kept-self w)))
       (λ _. rw on-none (pass-accounts first second c keys draws time w))
 
-  on-fresh : passRefusal c draws ≡ NONE → levelDue c ≡ true → Fresh (on .passed .game)
+  on-fresh : passRefusal c draws .number ≡ 0 → levelDue c ≡ true → Fresh (on .passed .game)
   unfolding levelDue
   on-fresh e due =
       let d = not-true (c .dead) (and-left (not (c .dead)) (c .«won_level») due) in
@@ -164,7 +165,7 @@ module _ (c : Cutter) (keys draws : List ℕ) (time first second : ℕ) where
   pub pass-starts : (goes t && levelDue c) ≡ true → Fresh (t .passed .game)
   pass-starts =
       by-pass (λ (t : CutterTurn). (goes t && levelDue c) ≡ true → Fresh (t .passed .game))
-      (λ n some e. absurd (some (eqb-true n NONE (and-left (eqb n NONE) (levelDue c) e))))
+      (λ n some e. absurd (some (eqb-true (n .number) 0 (and-left (clear n) (levelDue c) e))))
       (λ e. rw on-none (on-fresh e))
 
   pub passAt-formed : Goes t → WellFormed (t .passed .game)
@@ -174,14 +175,14 @@ module _ (c : Cutter) (keys draws : List ℕ) (time first second : ℕ) where
 -- ---- an answered state is well formed
 
 -- a call that answers with a where the number n is none
-call-formed : (c : Cutter) (a : CutterAnswer) (n : ℕ) → (n ≡ NONE → WellFormed (a .game)) → Formed (refusedOr n (refused c) a)
+call-formed : (c : Cutter) (a : CutterAnswer) (n : Refusal) → (n .number ≡ 0 → WellFormed (a .game)) → Formed (refusedOr n (refused c) a)
 call-formed c a n f = refused-or-answered (refused c) a Formed n (λ some none. absurd (some none)) (λ e _. f e)
 
 module _ (c : Cutter) where
   pub direction-formed : (dir : ℕ) → Formed (directionCall c dir)
   unfolding directionCall
   direction-formed dir =
-      let no : ℕ = unless (leb dir LEFT) COMMAND in
+      let no : Refusal = unless (leb dir LEFT) COMMAND in
       call-formed c (answered (directed c dir)) (refusalOf c then no) (λ e. direction-kept c dir (accepted c (then-none (refusalOf c) no e .0)) .formed)
 
   pub step-formed : Formed (stepCall c)

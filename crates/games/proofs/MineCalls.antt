@@ -3,7 +3,8 @@ use mathlib.Core.List.{List}
 use mathlib.Core.Path.{_≡_}
 use Prim.Native.Nat.{ℕ}
 use lib.Dec.{leb}
-use Rattle.refusal.specs.Refusal.{NONE, COMMAND, unless, _then_, refusedOr}
+use Rattle.refusal.specs.declared.Refusal.{Refusal}
+use Rattle.refusal.specs.Refusal.{COMMAND, unless, _then_, refusedOr}
 use Rattle.refusal.proofs.Calls.{then-none, refused-or-answered}
 use Rattle.answer.specs.declared.Answer.the-variants.{GoingOn}
 use Rattle.mine_state.specs.declared.Mine.{Mine}
@@ -25,13 +26,13 @@ use Rattle.mine.specs.Calls.{refused, answered, moveCall, gravityCall, tickCall
 use Rattle.controls.specs.Keys.{LEFT}
 
 -- a call that answers with s where the number n is none
-module _ (m s : Mine) (n : ℕ) where
+module _ (m s : Mine) (n : Refusal) where
   call-kept : WellFormed m → Kept m s → Kept m (refusedOr n (refused m) (answered s) .game)
   call-kept w k = refused-or-answered (refused m) (answered s) (λ (a : MineAnswer). Kept m (a .game)) n (λ _. kept-self w) (λ _. k)
 
-  call-formed : (n ≡ NONE → WellFormed s) → refusedOr n (refused m) (answered s) .refusal ≡ NONE → WellFormed (refusedOr n (refused m) (answered s) .game)
+  call-formed : (n .number ≡ 0 → WellFormed s) → refusedOr n (refused m) (answered s) .refusal .number ≡ 0 → WellFormed (refusedOr n (refused m) (answered s) .game)
   call-formed f =
-      refused-or-answered (refused m) (answered s) (λ (a : MineAnswer). a .refusal ≡ NONE → WellFormed (a .game)) n
+      refused-or-answered (refused m) (answered s) (λ (a : MineAnswer). a .refusal .number ≡ 0 → WellFormed (a .game)) n
       (λ some none. absurd (some none))
       (λ e _. f e)
 
@@ -48,17 +49,17 @@ module _ (m : Mine) where
   unfolding tickCall
   tickCall-kept w = call-kept m (enemiesMoved m) (refusalOf m) w (tick-kept m w)
 
-  pub moveCall-formed : (dir : ℕ) → moveCall m dir .refusal ≡ NONE → WellFormed (moveCall m dir .game)
+  pub moveCall-formed : (dir : ℕ) → moveCall m dir .refusal .number ≡ 0 → WellFormed (moveCall m dir .game)
   unfolding moveCall
   moveCall-formed dir =
-      let no : ℕ = unless (leb dir LEFT) COMMAND in
+      let no : Refusal = unless (leb dir LEFT) COMMAND in
       call-formed m (moved m dir) (refusalOf m then no) (λ e. move-kept m dir (accepted m (then-none (refusalOf m) no e .0)) .formed)
 
-  pub gravityCall-formed : gravityCall m .refusal ≡ NONE → WellFormed (gravityCall m .game)
+  pub gravityCall-formed : gravityCall m .refusal .number ≡ 0 → WellFormed (gravityCall m .game)
   unfolding gravityCall
   gravityCall-formed = call-formed m (gravityOf m) (refusalOf m) (λ e. gravity-kept m (accepted m e) .formed)
 
-  pub tickCall-formed : tickCall m .refusal ≡ NONE → WellFormed (tickCall m .game)
+  pub tickCall-formed : tickCall m .refusal .number ≡ 0 → WellFormed (tickCall m .game)
   unfolding tickCall
   tickCall-formed = call-formed m (enemiesMoved m) (refusalOf m) (λ e. tick-kept m (accepted m e) .formed)
 
@@ -70,10 +71,10 @@ module _ (m : Mine) where
         (λ _. kept-self w)
         (λ _. pass-kept first second m keys time w)
 
-    pub passAt-formed : passAt m keys time first second .passed .refusal ≡ NONE → WellFormed (passAt m keys time first second .passed .game)
+    pub passAt-formed : passAt m keys time first second .passed .refusal .number ≡ 0 → WellFormed (passAt m keys time first second .passed .game)
     unfolding passAt
     passAt-formed =
         refused-or-answered (λ n. still first second n GoingOn m) (passOn first second m keys time)
-        (λ (t : MineTurn). t .passed .refusal ≡ NONE → WellFormed (t .passed .game)) (refusalOf m)
+        (λ (t : MineTurn). t .passed .refusal .number ≡ 0 → WellFormed (t .passed .game)) (refusalOf m)
         (λ some none. absurd (some none))
         (λ e _. pass-kept first second m keys time (accepted m e) .formed)

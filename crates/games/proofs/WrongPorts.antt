@@ -4,11 +4,13 @@ use mathlib.Core.Path.{_≡_, refl, sym, ap, subst, _∙_}
 use Prim.Native.Nat.{ℕ}
 use native.Mathlib.Omega.{arith}
 use lib.Dec.{leb}
+use Rattle.refusal.specs.declared.Refusal.{Refusal}
+use Rattle.refusal.specs.Faults.{firstFault, faultIn}
 use Rattle.refusal.specs.Refusal.{NONE, COMMAND, unless, _then_}
-use Rattle.refusal.proofs.Calls.{answered-by}
+use Rattle.refusal.proofs.Calls.{then-second, answered-by}
 use Rattle.mine_state.specs.declared.Mine.{Mine}
 use Rattle.mine_state.specs.State.{purse, emptyAt, freeAt}
-use Rattle.mine_state.specs.WellFormed.{cellsOk, creaturesOk, numbersOk, refusalOf}
+use Rattle.mine_state.specs.WellFormed.{cellsOk, creatureFault, creaturesFault, numbersOk, refusalOf}
 use Rattle.mine_rules.specs.Ways.{nextCell}
 use Rattle.mine_rules.specs.Load.{loaded}
 use Rattle.mine_rules.specs.Move.{pushed, met, moved}
@@ -36,20 +38,22 @@ use Rattle.cutter_state.specs.State.{claimedIn}
 use Rattle.controls.specs.Keys.{RIGHT, DOWN, LEFT}
 
 -- to the right where the state is not refused
-goes : (m : Mine) → refusalOf m ≡ NONE → moveCall m RIGHT ≡ answered (moved m RIGHT)
+goes : (m : Mine) → refusalOf m .number ≡ 0 → moveCall m RIGHT ≡ answered (moved m RIGHT)
 unfolding moveCall
-goes m e = answered-by (refused m) (answered (moved m RIGHT)) (refusalOf m then unless (leb RIGHT LEFT) COMMAND) (rw e)
+goes m e =
+    answered-by (refused m) (answered (moved m RIGHT)) (refusalOf m then unless (leb RIGHT LEFT) COMMAND)
+    (ap (λ (r : Refusal). r .number) (then-second (refusalOf m) NONE e))
 
 -- the first and the second step to the right
 record Steps (m : Mine) : Type 0 where
-  first : refusalOf m ≡ NONE
-  second : refusalOf (moved m RIGHT) ≡ NONE
+  first : refusalOf m .number ≡ 0
+  second : refusalOf (moved m RIGHT) .number ≡ 0
   from : m .px ≡ 1
   one : moved m RIGHT .px ≡ 2
   two : moved (moved m RIGHT) RIGHT .px ≡ 3
 
 drawn-steps : Steps drawn
-unfolding refusalOf cellsOk creaturesOk numbersOk moved met pushed nextCell freeAt emptyAt
+unfolding refusalOf cellsOk creaturesFault creatureFault faultIn firstFault numbersOk moved met pushed nextCell freeAt emptyAt
 drawn-steps = record { first = refl; second = refl; from = refl; one = refl; two = refl }
 
 steps : Steps loaded
@@ -83,7 +87,7 @@ module _ (port : Mine → ℕ → MineAnswer) (kept : (m : Mine) (dir : ℕ) →
   wrong-move : WrongMove port
   wrong-move =
       record {
-        refuses-always = λ h. h loaded RIGHT (ap (λ (a : MineAnswer). a .refusal) once);
+        refuses-always = λ h. h loaded RIGHT (ap (λ (a : MineAnswer). a .refusal .number) once);
         loaded-always = λ h. stays (sym (game once) ∙ h loaded RIGHT);
         does-nothing = λ h. stays (sym (game once) ∙ h loaded RIGHT);
         idles-then = λ h. idles (sym (game twice) ∙ ap (λ (m : Mine). port m RIGHT .game) (sym (game once)) ∙ h loaded RIGHT RIGHT ∙ game once);
@@ -138,7 +142,7 @@ module _ (port : Cutter → CutterAnswer) (kept : (c : Cutter) → port c ≡ st
   wrong-step : WrongStep port
   wrong-step =
       record {
-        refuses-always = λ h. h down (ap (λ (a : CutterAnswer). a .refusal) first-step);
+        refuses-always = λ h. h down (ap (λ (a : CutterAnswer). a .refusal .number) first-step);
         one-state-always = λ s h. idles-down (sym (stands second-step) ∙ h (stepped down) ∙ sym (h down) ∙ stands first-step);
         does-nothing = λ h. stays-down (sym (stands first-step) ∙ h down);
         idles-then = λ h. idles-down (sym (stands second-step) ∙ ap (λ (c : Cutter). port c .game) (sym (stands first-step)) ∙ h down ∙ stands first-step);

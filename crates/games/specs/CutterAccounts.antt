@@ -3,7 +3,6 @@ use mathlib.Core.Bool.{true}
 use mathlib.Core.List.{List}
 use mathlib.Core.Path.{_≡_}
 use Prim.Native.Nat.{ℕ, _+_}
-use Rattle.refusal.specs.Refusal.{NONE}
 use Rattle.pace.specs.declared.Pace.{Pace}
 use Rattle.cutter_state.specs.declared.Cutter.{Cutter}
 use Rattle.cutter_state.specs.WellFormed.{WellFormed}
@@ -29,7 +28,7 @@ pub record CutterAccounts : Type 0 where
 
 -- every state given without a refusal is well formed, whatever state came
 abbrev pub Formed : CutterAnswer → Type 0
-Formed a = a .refusal ≡ NONE → WellFormed (a .game)
+Formed a = a .refusal .number ≡ 0 → WellFormed (a .game)
 
 pub record CutterFormed : Type 0 where
   pub round : (draws : List ℕ) → Formed (roundCall draws)
@@ -39,6 +38,6 @@ pub record CutterFormed : Type 0 where
   pub sweeps : (c : Cutter) → Formed (sweepsCall c)
   pub tick : (c : Cutter) → Formed (enemiesCall c)
   pub respawn : (c : Cutter) → Formed (respawnCall c)
-  pub pass : (c : Cutter) (keys draws : List ℕ) (time : ℕ) (pace : Pace) → passOf c keys draws time pace .0 .refusal ≡ NONE → WellFormed (passOf c keys draws time pace .0 .game)
-  pub passMarks : (c : Cutter) (keys draws : List ℕ) (time first second : ℕ) → passAt c keys draws time first second .passed .refusal ≡ NONE
+  pub pass : (c : Cutter) (keys draws : List ℕ) (time : ℕ) (pace : Pace) → passOf c keys draws time pace .0 .refusal .number ≡ 0 → WellFormed (passOf c keys draws time pace .0 .game)
+  pub passMarks : (c : Cutter) (keys draws : List ℕ) (time first second : ℕ) → passAt c keys draws time first second .passed .refusal .number ≡ 0
       → WellFormed (passAt c keys draws time first second .passed .game)

@@ -3,7 +3,8 @@ use mathlib.Core.Bool.{Bool, true, false, cond, not, _&&_}
 use mathlib.Core.List.{List, [], _∷_}
 use Prim.Native.Nat.{ℕ, _+_}
 use lib.Dec.{eqb}
-use Rattle.refusal.specs.Refusal.{NONE, refusedOr}
+use Rattle.refusal.specs.declared.Refusal.{Refusal}
+use Rattle.refusal.specs.Refusal.{refusedOr, clear}
 use Rattle.pace.specs.declared.Pace.{Pace}
 use Rattle.pace.specs.Pace.{started}
 use Rattle.cutter_ground.specs.declared.Mover.{Mover}
@@ -48,19 +49,19 @@ module _ (p : Play) where
   playing s = record { game = s; pace = p .pace }
 
   -- it starts a level where it is not refused
-  abbrev pub starting : ℕ → Cutter → Outcome
-  starting refusal s = record { play = playing s; starts = eqb refusal NONE; claims = 0; loses = 0 }
+  abbrev pub starting : Refusal → Cutter → Outcome
+  starting refusal s = record { play = playing s; starts = clear refusal; claims = 0; loses = 0 }
 
   -- a step that is not refused has its closing
   abbrev pub stepping : CutterAnswer → Outcome
   stepping a =
-      let goes : Bool = eqb (a .refusal) NONE in
+      let goes : Bool = clear (a .refusal) in
       record { play = playing (a .game); starts = false; claims = cond goes (stepClaims (p .game)) 0; loses = cond goes (stepLoses (p .game)) 0 }
 
   -- a pass that is not refused starts the level that is due, and has the closing of its step; `first` is the step's mark
   abbrev pub passing : List ℕ → ℕ → ℕ → CutterPassed → Pace → Outcome
   passing keys time first passed pace =
-      let goes : Bool = eqb (passed .refusal) NONE in
+      let goes : Bool = clear (passed .refusal) in
       record {
         play = record { game = passed .game; pace = pace };
         starts = goes && levelDue (p .game);

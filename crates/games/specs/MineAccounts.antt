@@ -4,7 +4,6 @@ use mathlib.Core.List.{List}
 use mathlib.Core.Path.{_≡_}
 use Prim.Native.Nat.{ℕ}
 use Rattle.laws.specs.Lists.{all}
-use Rattle.refusal.specs.Refusal.{NONE}
 use Rattle.pace.specs.declared.Pace.{Pace}
 use Rattle.mine_state.specs.declared.Mine.{Mine}
 use Rattle.mine_state.specs.State.{purse, boulders}
@@ -31,9 +30,9 @@ pub record MineAccounts : Type 0 where
 -- every state given without a refusal is well formed, whatever state came
 pub record MineFormed : Type 0 where
   pub load : WellFormed loaded
-  pub move : (m : Mine) (dir : ℕ) → moveCall m dir .refusal ≡ NONE → WellFormed (moveCall m dir .game)
-  pub gravity : (m : Mine) → gravityCall m .refusal ≡ NONE → WellFormed (gravityCall m .game)
-  pub tick : (m : Mine) → tickCall m .refusal ≡ NONE → WellFormed (tickCall m .game)
-  pub pass : (m : Mine) (keys : List ℕ) (time : ℕ) (pace : Pace) → passOf m keys time pace .0 .refusal ≡ NONE → WellFormed (passOf m keys time pace .0 .game)
-  pub passMarks : (m : Mine) (keys : List ℕ) (time first second : ℕ) → passAt m keys time first second .passed .refusal ≡ NONE
+  pub move : (m : Mine) (dir : ℕ) → moveCall m dir .refusal .number ≡ 0 → WellFormed (moveCall m dir .game)
+  pub gravity : (m : Mine) → gravityCall m .refusal .number ≡ 0 → WellFormed (gravityCall m .game)
+  pub tick : (m : Mine) → tickCall m .refusal .number ≡ 0 → WellFormed (tickCall m .game)
+  pub pass : (m : Mine) (keys : List ℕ) (time : ℕ) (pace : Pace) → passOf m keys time pace .0 .refusal .number ≡ 0 → WellFormed (passOf m keys time pace .0 .game)
+  pub passMarks : (m : Mine) (keys : List ℕ) (time first second : ℕ) → passAt m keys time first second .passed .refusal .number ≡ 0
       → WellFormed (passAt m keys time first second .passed .game)

@@ -1,7 +1,6 @@
 -- Ports that break the promises, shown on Block Mine's move and Block Cutter's step.
 use mathlib.Core.Path.{_≡_}
 use Prim.Native.Nat.{ℕ, _+_}
-use Rattle.refusal.specs.Refusal.{NONE}
 use Rattle.mine_state.specs.declared.Mine.{Mine}
 use Rattle.mine_state.specs.State.{purse}
 use Rattle.mine_state.specs.WellFormed.{WellFormed}
@@ -17,7 +16,7 @@ use Rattle.cutter_state.specs.State.{claimedIn}
 
 -- no port of the move that keeps the promise does one of these
 pub record WrongMove (port : Mine → ℕ → MineAnswer) : Type 0 where
-  pub refuses-always : ((m : Mine) (dir : ℕ) → port m dir .refusal ≡ NONE → ⊥) → ⊥
+  pub refuses-always : ((m : Mine) (dir : ℕ) → port m dir .refusal .number ≡ 0 → ⊥) → ⊥
   pub loaded-always : ((m : Mine) (dir : ℕ) → port m dir .game ≡ loaded) → ⊥
   pub does-nothing : ((m : Mine) (dir : ℕ) → port m dir .game ≡ m) → ⊥
   -- plays a first call and idles at the second
@@ -28,7 +27,7 @@ pub record WrongMove (port : Mine → ℕ → MineAnswer) : Type 0 where
 
 -- and none of the step
 pub record WrongStep (port : Cutter → CutterAnswer) : Type 0 where
-  pub refuses-always : ((c : Cutter) → port c .refusal ≡ NONE → ⊥) → ⊥
+  pub refuses-always : ((c : Cutter) → port c .refusal .number ≡ 0 → ⊥) → ⊥
   pub one-state-always : (s : Cutter) → ((c : Cutter) → port c .game ≡ s) → ⊥
   pub does-nothing : ((c : Cutter) → port c .game ≡ c) → ⊥
   pub idles-then : ((c : Cutter) → port (port c .game) .game ≡ port c .game) → ⊥

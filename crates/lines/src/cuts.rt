@@ -65,7 +65,7 @@ fn said_of(a: CutterAnswer) -> CutSaid
 {
     let no = a.refusal;
     let game = a.game;
-    if no == refusal::NONE {
+    if no.number == refusal::NONE.number {
         return CutSaid {
             says: Says::Numbers,
             game,

@@ -46,7 +46,7 @@ fn said_of(a: MineAnswer) -> MineSaid
 {
     let no = a.refusal;
     let game = a.game;
-    if no == refusal::NONE {
+    if no.number == refusal::NONE.number {
         return MineSaid {
             says: Says::Numbers,
             game,

@@ -3,11 +3,14 @@ use mathlib.Core.List.{List, [], _∷_, _++_}
 use mathlib.Core.Path.{_≡_}
 use Prim.Native.Nat.{ℕ, zero, suc, _+_, _*_, _<_, _≤_}
 use native.Mathlib.Omega.{arith}
+use lib.Dec.{ltb}
 use lib.ListN.{length, drop, getD, set, length-append, drop-of-length-le}
 use Rattle.laws.proofs.Lists.{drop-one}
+use Rattle.laws.proofs.Choice.{cond-both}
+use Rattle.refusal.specs.declared.Refusal.{Refusal}
 use Rattle.text.specs.declared.Says.{Says}
 use Rattle.text.specs.declared.Says.the-variants.{Nothing, Numbers, Refused}
-use Rattle.text.specs.Text.{SPACE, NEWLINE, DIGITS, NUMBERS, LINE, decimal, further, numbersLine, refusedLine, lineOf}
+use Rattle.text.specs.Text.{SPACE, NEWLINE, DIGITS, NUMBERS, LINE, decimal, further, numbersLine, refusedLine, lineOf, PLACED, placeLine}
 use Rattle.text.specs.CodePuts.{Puts}
 use Rattle.text.proofs.Decimal.{length-decimal}
 use Rattle.text.proofs.Puts.{puts-both, puts-byte}
@@ -38,10 +41,16 @@ unfolding further
 length-further [] = omega arith
 length-further (n ∷ ns) = simp length-append (omega (arith, length-decimal DIGITS n, length-further ns))
 
+length-place : (r : Refusal) → length (placeLine r) ≤ PLACED
+unfolding placeLine
+length-place r =
+    cond-both (λ (l : List ℕ). length l ≤ PLACED) (ltb (r .number) 31) _ _ (λ _. omega arith)
+    (λ _. simp length-append (omega (arith, length-decimal DIGITS (r .at))))
+
 -- a line has at most 147 bytes
 pub length-line : (says : Says) (ns : List ℕ) → length ns ≡ NUMBERS → length (lineOf says ns) ≤ LINE
 unfolding lineOf numbersLine refusedLine
 length-line Nothing ns e = omega arith
 length-line Numbers [] e = omega arith
 length-line Numbers (n ∷ ns) e = simp length-append (omega (arith, length-decimal DIGITS n, length-further ns))
-length-line (Refused k) ns e = simp length-append (omega (arith, length-decimal DIGITS k))
+length-line (Refused r) ns e = simp length-append (omega (arith, length-decimal DIGITS (r .number), length-place r))

@@ -6,6 +6,7 @@ use Prim.Native.Nat.{ℕ, zero, suc, _+_, _/_, _%_}
 use Prim.Native.String.{String}
 use Prim.Native.String as S
 use lib.Dec.{ltb}
+use Rattle.refusal.specs.declared.Refusal.{Refusal}
 use Rattle.text.specs.declared.Says.{Says}
 use Rattle.text.specs.declared.Says.the-variants.{Nothing, Numbers, Refused}
 
@@ -30,6 +31,10 @@ NUMBERS = 7
 abbrev pub LINE : ℕ
 LINE = 147
 
+-- a place with its words
+abbrev pub PLACED : ℕ
+PLACED = 25
+
 abbrev pub digit : ℕ → ℕ
 digit d = code "0" + d
 
@@ -51,9 +56,13 @@ unfoldable pub numbersLine : List ℕ → List ℕ
 numbersLine [] = NEWLINE ∷ []
 numbersLine (n ∷ ns) = decimal n ++ further ns
 
--- `refused` and the number
-unfoldable pub refusedLine : ℕ → List ℕ
-refusedLine k = bytesOf "refused " ++ decimal k ++ NEWLINE ∷ []
+-- ` at ` and the place of a number from 31 on; others have none
+unfoldable pub placeLine : Refusal → List ℕ
+placeLine r = cond (ltb (r .number) 31) (NEWLINE ∷ []) (bytesOf " at " ++ decimal (r .at) ++ NEWLINE ∷ [])
+
+-- `refused` and the number, with its place
+unfoldable pub refusedLine : Refusal → List ℕ
+refusedLine r = bytesOf "refused " ++ decimal (r .number) ++ placeLine r
 
 -- the line for what is said
 unfoldable pub lineOf : Says → List ℕ → List ℕ

@@ -3,7 +3,7 @@ use refusal::Refusal;
 ghost use Prim.Native.Nat.{_+_, _≤_};
 ghost use mathlib.Core.Path.{_≡_};
 ghost use lib.ListN.{length};
-ghost use Rattle.text.specs.Text.{DIGITS, LINE, decimal, numbersLine, refusedLine, lineOf};
+ghost use Rattle.text.specs.Text.{DIGITS, LINE, PLACED, decimal, numbersLine, placeLine, refusedLine, lineOf};
 ghost use Rattle.text.specs.CodePuts.{Puts};
 
 // The numbers of a line.
@@ -59,14 +59,28 @@ fn put_numbers(numbers: [u64; NUMBERS], out: &mut [u8], at: usize) -> usize
     end + 1
 }
 
+// Ends a refusal's line: its place, where its number has one.
+fn put_place(no: Refusal, out: &mut [u8], at: usize) -> usize
+    requires { ⌜ at + PLACED ≤ length (now out) ⌝ }
+    ensures { λ r. ⌜ Puts (placeLine no) at (now (out .entry)) r (now (out .exit)) ⌝ }
+{
+    if no.number < refusal::TOO_MANY.number {
+        out[at] = b'\n';
+        return at + 1;
+    }
+    let place = put(b" at ", out, at);
+    let end = put_number(no.at as u64, out, place);
+    out[end] = b'\n';
+    end + 1
+}
+
 fn put_refused(no: Refusal, out: &mut [u8], at: usize) -> usize
     requires { ⌜ at + LINE ≤ length (now out) ⌝ }
     ensures { λ r. ⌜ Puts (refusedLine no) at (now (out .entry)) r (now (out .exit)) ⌝ }
 {
     let word = put(b"refused ", out, at);
-    let end = put_number(no as u64, out, word);
-    out[end] = b'\n';
-    end + 1
+    let end = put_number(no.number as u64, out, word);
+    put_place(no, out, end)
 }
 
 // Puts what is said as a line at `at`, and answers where it ends.
