@@ -15,7 +15,12 @@ typedef struct {
 } Cutter;
 
 typedef struct {
-    u8 refusal;
+    u8 number;
+    usize at;
+} Refusal;
+
+typedef struct {
+    Refusal refusal;
     u16 black, claimed, line, share;
 } Ground;
 
@@ -37,8 +42,8 @@ RULE(Mine, rule_mine_tick)
 RULE(Cutter, copy_cutter)
 RULE(Cutter, rule_cutter_tick)
 
-NUMBER(Mine, u8, check_mine)
-NUMBER(Cutter, u8, check_cutter)
+NUMBER(Mine, Refusal, check_mine)
+NUMBER(Cutter, Refusal, check_cutter)
 NUMBER(Cutter, usize, rule_cutter_walk)
 NUMBER(Cutter, Ground, call_cutter_ground)
 
@@ -116,7 +121,7 @@ typedef struct {
 } Made;
 
 typedef struct {
-    usize words[2176 / 8];
+    usize words[2184 / 8];
 } Answer;
 
 #define CALL(Result, name)                                                                         \

@@ -2,11 +2,19 @@
 
 use oracle::state::{CELLS, CN, Cutter, ENEMIES, Enemy, MOVERS, Mine, Mover};
 
+/// A refusal's number, and its place.
+#[repr(C)]
+#[derive(Clone, Debug, Default)]
+pub struct Refusal {
+    pub number: u8,
+    pub at: usize,
+}
+
 /// The ground report.
 #[repr(C)]
 #[derive(Debug)]
 pub struct Ground {
-    pub refusal: u8,
+    pub refusal: Refusal,
     pub black: u16,
     pub claimed: u16,
     pub line: u16,
@@ -38,7 +46,7 @@ impl PartialEq for Made {
 /// What a Cutter call answers.
 #[repr(C)]
 pub struct Answer {
-    pub refusal: u8,
+    pub refusal: Refusal,
     pub game: Cutter,
     pub searched: u16,
     pub walked: u16,
@@ -89,13 +97,13 @@ macro_rules! calls {
 
 calls! {
     mine_copy: by_copy_mine(m: &Mine, out: &mut Mine);
-    mine_check: by_check_mine(m: &Mine) -> u8;
+    mine_check: by_check_mine(m: &Mine) -> Refusal;
     mine_load: by_rule_mine_load(out: &mut Mine);
     mine_gravity: by_rule_mine_gravity(m: &Mine, out: &mut Mine);
     mine_tick: by_rule_mine_tick(m: &Mine, out: &mut Mine);
     mine_step: by_rule_mine_step(m: &Mine, dir: u8, out: &mut Mine);
     cutter_copy: by_copy_cutter(c: &Cutter, out: &mut Cutter);
-    cutter_check: by_check_cutter(c: &Cutter) -> u8;
+    cutter_check: by_check_cutter(c: &Cutter) -> Refusal;
     cutter_step: by_rule_cutter_step(c: &Cutter, out: &mut Made);
     cutter_step_by_sweeps: by_rule_cutter_step_by_sweeps(c: &Cutter, out: &mut Made);
     cutter_call_step: by_call_cutter_step(c: &Cutter, out: &mut Answer);

@@ -4,7 +4,7 @@ use std::thread;
 
 use oracle::state::Cutter;
 
-use crate::ours::{Answer, Made};
+use crate::ours::{Answer, Made, Refusal};
 use crate::{ours, states};
 
 const PAINT: u8 = 165;
@@ -37,7 +37,7 @@ type Call = fn(&Cutter, &mut Answer);
 
 fn on_thread(state: Cutter, call: Call) -> Used {
     let run = move || {
-        let mut out = Answer { refusal: 0, game: state.clone(), searched: 0, walked: 0 };
+        let mut out = Answer { refusal: Refusal::default(), game: state.clone(), searched: 0, walked: 0 };
         used(|| call(&state, &mut out))
     };
     thread::Builder::new().stack_size(STACK).spawn(run).expect("a thread").join().expect("a call")
