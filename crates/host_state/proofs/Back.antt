@@ -5,10 +5,11 @@ use mathlib.Core.Path.{_≡_, refl, sym, ap, _∙_}
 use Prim.Native.Nat.{ℕ, zero, suc, _<_}
 use native.Mathlib.Omega.{arith}
 use lib.Dec.{lit<}
-use borrow.Author.Tests.{lt-leb}
+use borrow.Author.Tests.{lt-leb, eqb-false}
 use Rattle.laws.specs.Lists.{all}
-use Rattle.laws.proofs.Choice.{and-left, and-right}
-use Rattle.refusal.specs.Refusal.{NONE, CELLS, NUMBERS, _then_}
+use Rattle.laws.proofs.Choice.{cond-both, and-left, and-right}
+use Rattle.refusal.specs.declared.Refusal.{Refusal}
+use Rattle.refusal.specs.Refusal.{NONE, CELLS, NUMBERS, clear, _then_}
 use Rattle.refusal.proofs.Calls.{then-none, unless-none}
 use Rattle.mine_state.specs.declared.Mine.{Mine}
 use Rattle.mine_state.specs.WellFormed as MW
@@ -67,18 +68,18 @@ cutter-passes c = rw (byte-is-flag (c .trailing), byte-is-flag (c .dead), byte-i
 
 -- ---- a state whose flags pass is written out as it came
 
-some-number : (n : ℕ) → 0 < (n then NUMBERS)
-some-number zero = lit< tt
-some-number (suc n) = omega arith
+some-number : (r : Refusal) → 0 < (r then NUMBERS) .number
+some-number r =
+    cond-both (λ (s : Refusal). 0 < s .number) (clear r) NUMBERS r (λ _. lit< tt) (λ e. omega (arith, eqb-false (r .number) 0 e))
 
-pub mine-as-it-came : (h : HostMine) → M.flagsOf h ≡ NONE → M.hostOf (M.gameOf h) ≡ h
+pub mine-as-it-came : (h : HostMine) → M.flagsOf h .number ≡ 0 → M.hostOf (M.gameOf h) ≡ h
 unfolding M.flagsOf M.gameOf M.hostOf
 mine-as-it-came h e =
     let p = then-none _ _ e in
     let f : (isFlag (h .dead) && isFlag (h .won)) ≡ true = unless-none _ _ (some-number (MW.refusalOf (M.gameOf h))) (p .1) in
     rw (bytes-flags (h .falling) (unless-none _ CELLS (lit< tt) (p .0)), byte-flag (h .dead) (and-left _ _ f), byte-flag (h .won) (and-right (isFlag (h .dead)) _ f))
 
-pub cutter-as-it-came : (h : HostCutter) → C.flagsOf h ≡ NONE → C.hostOf (C.gameOf h) ≡ h
+pub cutter-as-it-came : (h : HostCutter) → C.flagsOf h .number ≡ 0 → C.hostOf (C.gameOf h) ≡ h
 unfolding C.flagsOf C.gameOf C.hostOf
 cutter-as-it-came h e =
     let p = then-none _ _ e in

@@ -2,11 +2,11 @@
 use mathlib.Core.Bool.{_&&_}
 use mathlib.Core.List.{map}
 use mathlib.Core.Path.{_≡_}
-use Prim.Native.Nat.{ℕ}
 use Rattle.laws.specs.Lists.{all}
+use Rattle.refusal.specs.declared.Refusal.{Refusal}
 use Rattle.refusal.specs.Refusal.{CELLS, NUMBERS, unless, _then_}
 use Rattle.mine_state.specs.declared.Mine.{Mine}
-use Rattle.mine_state.specs.WellFormed.{cellsOk, playerOk, creaturesOk, numbersOk, checked, refusalOf}
+use Rattle.mine_state.specs.WellFormed.{cellsOk, playerOk, creaturesFault, numbersOk, checked, refusalOf}
 use Rattle.host_state.specs.declared.mine_bytes.HostMine.{HostMine}
 use Rattle.host_state.specs.Flags.{isFlag, flagOf, byteOf}
 
@@ -42,16 +42,16 @@ hostOf m =
       won = byteOf (m .won);
     }
 
--- a mark that is no flag gets 1; dead or won that is none gets 4, behind the state's own 1, 2 and 3
-unfoldable pub flagsOf : HostMine → ℕ
+-- a mark that is no flag gets 1; dead or won that is none gets 4, behind the state's own 1, 2 and creatures' fault
+unfoldable pub flagsOf : HostMine → Refusal
 flagsOf h =
     unless (all isFlag (h .falling)) CELLS
     then unless (isFlag (h .dead) && isFlag (h .won)) (refusalOf (gameOf h) then NUMBERS)
 
--- document 01's order with each flag in its place
-unfoldable pub inOrder : HostMine → ℕ
+-- document 01's order with each flag in its place, and document 02's 31 to 36 in place of 3
+unfoldable pub inOrder : HostMine → Refusal
 inOrder h =
-    checked (all isFlag (h .falling) && cellsOk (gameOf h)) (playerOk (gameOf h)) (creaturesOk (gameOf h))
+    checked (all isFlag (h .falling) && cellsOk (gameOf h)) (playerOk (gameOf h)) (creaturesFault (gameOf h))
     (numbersOk (gameOf h) && (isFlag (h .dead) && isFlag (h .won)))
 
 -- what a host's state is refused for, by its flags and then by the public call, is the first that applies in that order

@@ -26,7 +26,7 @@ pub struct HostCutter {
     pub won_level: u8,
 }
 
-// The number that a byte gets that is no flag, and NONE: CELLS for trailing, NUMBERS for dead or won behind what the state gets.
+// What a byte gets that is no flag, and NONE: CELLS for trailing, NUMBERS for dead or won behind what the state gets.
 pub fn cutter_flags(h: HostCutter) -> Refusal
     ensures { λ r. ⌜ r ≡ flagsOf h ⌝ }
 {
@@ -37,7 +37,7 @@ pub fn cutter_flags(h: HostCutter) -> Refusal
         return refusal::NONE;
     }
     let no = cutter_check::check(cutter_game(h));
-    if no != refusal::NONE {
+    if no.number != refusal::NONE.number {
         return no;
     }
     refusal::NUMBERS

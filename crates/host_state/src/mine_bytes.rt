@@ -72,7 +72,7 @@ fn bytes_of(marks: &[bool; AREA]) -> [u8; AREA]
     out
 }
 
-// The number that a byte gets that is no flag, and NONE: CELLS for a mark, NUMBERS for dead or won behind what the state gets.
+// What a byte gets that is no flag, and NONE: CELLS for a mark, NUMBERS for dead or won behind what the state gets.
 pub fn mine_flags(h: HostMine) -> Refusal
     ensures { λ r. ⌜ r ≡ flagsOf h ⌝ }
 {
@@ -84,7 +84,7 @@ pub fn mine_flags(h: HostMine) -> Refusal
         return refusal::NONE;
     }
     let no = mine_check::check(mine_game(h));
-    if no != refusal::NONE {
+    if no.number != refusal::NONE.number {
         return no;
     }
     refusal::NUMBERS

@@ -23,21 +23,23 @@ returns-2 c =
 
 returns-3 : tie.Need-returns-3
 returns-3 c =
-    let k = c .before .before .before in
+    let g = c .before .before .before in
+    let k = g .before .before in
     let f = k .before .before in
     let m = f .before .before in
     let marks = sym (m .marks-ok .ensures) ∙ not-false _ (f .before .if1 .left) in
-    let no = c .before .check .ensures ∙ ap refusalOf (c .before .before .mine-game .ensures) in
+    let no = g .check .ensures ∙ ap refusalOf (g .before .mine-game .ensures) in
     sym (mine-behind (m .before .before .before .args .h) marks (f .is-flag .ensures) (k .before .is-flag2 .ensures) (k .if2 .left) no
     ∙ then-first _ NUMBERS (c .if3 .taken))
 
 returns-4 : tie.Need-returns-4
 returns-4 c =
-    let k = c .before .before .before in
+    let g = c .before .before .before in
+    let k = g .before .before in
     let f = k .before .before in
     let m = f .before .before in
     let marks = sym (m .marks-ok .ensures) ∙ not-false _ (f .before .if1 .left) in
-    let no = c .before .check .ensures ∙ ap refusalOf (c .before .before .mine-game .ensures) in
+    let no = g .check .ensures ∙ ap refusalOf (g .before .mine-game .ensures) in
     sym (mine-behind (m .before .before .before .args .h) marks (f .is-flag .ensures) (k .before .is-flag2 .ensures) (k .if2 .left) no
     ∙ then-second _ NUMBERS (c .if3 .left))
 
