@@ -47,6 +47,14 @@ void put_number(unsigned long n) {
     }
 }
 
+void put_refusal(sumbadger_refusal refusal) {
+    put_number(refusal.number);
+    if (31 <= refusal.number && refusal.number <= 36) {
+        put_text(" at", 3);
+        put_number(refusal.at);
+    }
+}
+
 static void put_signed(signed char n) {
     if (n < 0) {
         put_text(" -1", 3);

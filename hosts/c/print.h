@@ -7,6 +7,8 @@
 void put(char c);
 void put_text(const char *text, sumbadger_size length);
 void put_number(unsigned long n);
+/* Its number and, where that has a place, ` at ` and the place. */
+void put_refusal(sumbadger_refusal refusal);
 /* Writes what was put. */
 void flush(void);
 

@@ -36,13 +36,13 @@ static int is(const line *l, const char *name) {
 
 static void gave_mine(sumbadger_mine_answer a) {
     mine = a.game;
-    put_number(a.refusal);
+    put_refusal(a.refusal);
     put_mine(&mine);
 }
 
 static void gave_cutter(sumbadger_cutter_answer a) {
     cutter = a.game;
-    put_number(a.refusal);
+    put_refusal(a.refusal);
     put_number(a.searched);
     put_number(a.walked);
     put_cutter(&cutter);
@@ -61,10 +61,10 @@ static void gave_found(sumbadger_found f) {
     }
 }
 
-static void gave_picture(unsigned char refusal, sumbadger_size length) {
-    put_number(refusal);
+static void gave_picture(sumbadger_refusal refusal, sumbadger_size length) {
+    put_refusal(refusal);
     put_number(sum_of(frame, length));
-    if (refusal == SUMBADGER_NONE) {
+    if (refusal.number == SUMBADGER_NONE) {
         put_picture(frame);
     }
 }
@@ -87,7 +87,7 @@ static void try_mine(sumbadger_mine m, const line *l) {
     m.count = l->numbers[5];
     m.needed = (unsigned int)l->numbers[6];
     sumbadger_mine_answer a = sumbadger_mine_gravity(m);
-    put_number(a.refusal);
+    put_refusal(a.refusal);
     put_number(mine_sum(&a.game) == mine_sum(&m));
 }
 
@@ -101,7 +101,7 @@ static void try_cutter(sumbadger_cutter c, const line *l) {
     c.count = l->numbers[5];
     c.lives = (unsigned int)l->numbers[6];
     sumbadger_cutter_answer a = sumbadger_cutter_step_enemies(c);
-    put_number(a.refusal);
+    put_refusal(a.refusal);
     put_number(cutter_sum(&a.game) == cutter_sum(&c));
 }
 
@@ -119,7 +119,7 @@ static void play_mine(const line *l) {
         sumbadger_mine_passed p = sumbadger_mine_pass(mine, l->low + 1, l->count - 1, (unsigned int)l->numbers[0], marks);
         mine = p.game;
         marks = p.marks;
-        put_number(p.refusal);
+        put_refusal(p.refusal);
         put_number(p.answer);
         gave_marks();
         put_mine(&mine);
@@ -160,7 +160,7 @@ static void play_cutter(const line *l) {
             cutter, l->low + 1, l->count - 1, l->draws, l->draw_count, (unsigned int)l->numbers[0], marks);
         cutter = p.game;
         marks = p.marks;
-        put_number(p.refusal);
+        put_refusal(p.refusal);
         put_number(p.answer);
         put_number(p.searched);
         put_number(p.walked);
@@ -171,8 +171,9 @@ static void play_cutter(const line *l) {
         gave_picture(sumbadger_cutter_render(cutter, frame, length), length);
     } else if (is(l, "cutter_ground_report")) {
         sumbadger_ground g = sumbadger_cutter_ground_report(cutter);
-        unsigned long numbers[] = {g.refusal, g.black, g.claimed, g.line, g.share};
-        for (int i = 0; i < 5; i++) {
+        unsigned long numbers[] = {g.black, g.claimed, g.line, g.share};
+        put_refusal(g.refusal);
+        for (int i = 0; i < 4; i++) {
             put_number(numbers[i]);
         }
     } else if (is(l, "cutter_who")) {

@@ -1,5 +1,5 @@
 -- Block Cutter's calls as C gets them: refused for a byte that is no flag, or answered as the public call answers.
-use Prim.Native.Nat.{ℕ}
+use Rattle.refusal.specs.declared.Refusal.{Refusal}
 use Rattle.refusal.specs.Refusal.{refusedOr}
 use Rattle.answer.specs.Answer.{GOING-ON, numberOf}
 use Rattle.pace.specs.declared.Pace.{Pace}
@@ -27,12 +27,12 @@ turnOut t =
       walked = t .passed .walked;
     }
 
--- refused: the number, and the state as it came
-abbrev pub refused : HostCutter → ℕ → HostCutterAnswer
+-- refused: the number with its place, and the state as it came
+abbrev pub refused : HostCutter → Refusal → HostCutterAnswer
 refused h n = record { refusal = n; game = h; searched = 0; walked = 0 }
 
 -- a refused pass goes on, with state and marks as they came
-abbrev pub refusedPass : HostCutter → Pace → ℕ → HostCutterPassed
+abbrev pub refusedPass : HostCutter → Pace → Refusal → HostCutterPassed
 refusedPass h marks n = record { refusal = n; answer = GOING-ON; marks = marks; game = h; searched = 0; walked = 0 }
 
 -- a call on a state

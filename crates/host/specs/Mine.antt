@@ -1,5 +1,5 @@
 -- Block Mine's calls as C gets them: refused for a byte that is no flag, or answered as the public call answers.
-use Prim.Native.Nat.{ℕ}
+use Rattle.refusal.specs.declared.Refusal.{Refusal}
 use Rattle.refusal.specs.Refusal.{refusedOr}
 use Rattle.answer.specs.Answer.{GOING-ON, numberOf}
 use Rattle.pace.specs.declared.Pace.{Pace}
@@ -25,12 +25,12 @@ turnOut t =
       game = hostOf (t .passed .game);
     }
 
--- refused: the number, and the state as it came
-abbrev pub refused : HostMine → ℕ → HostMineAnswer
+-- refused: the number with its place, and the state as it came
+abbrev pub refused : HostMine → Refusal → HostMineAnswer
 refused h n = record { refusal = n; game = h }
 
 -- a refused pass goes on, with state and marks as they came
-abbrev pub refusedPass : HostMine → Pace → ℕ → HostMinePassed
+abbrev pub refusedPass : HostMine → Pace → Refusal → HostMinePassed
 refusedPass h marks n = record { refusal = n; answer = GOING-ON; marks = marks; game = h }
 
 -- a call on a state

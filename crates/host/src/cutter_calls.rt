@@ -52,9 +52,10 @@ pub struct HostMovers {
 fn answer_out(a: CutterAnswer) -> HostCutterAnswer
     ensures { λ r. ⌜ r ≡ answerOut a ⌝ }
 {
+    let no = a.refusal;
     let game = a.game;
     HostCutterAnswer {
-        refusal: a.refusal,
+        refusal: no,
         searched: a.searched,
         walked: a.walked,
         game: cutter_host(game),
@@ -65,6 +66,7 @@ fn turn_out(t: CutterTurn) -> HostCutterPassed
     ensures { λ r. ⌜ r ≡ turnOut t ⌝ }
 {
     let passed = t.passed;
+    let no = passed.refusal;
     let said = passed.answer;
     let game = passed.game;
     let marks = Pace {
@@ -72,7 +74,7 @@ fn turn_out(t: CutterTurn) -> HostCutterPassed
         second: t.second,
     };
     HostCutterPassed {
-        refusal: passed.refusal,
+        refusal: no,
         answer: answer::number(said),
         searched: passed.searched,
         walked: passed.walked,
@@ -95,7 +97,7 @@ pub extern "C" fn sumbadger_cutter_new_level(h: HostCutter, draws: &[u8]) -> Hos
     ensures { λ r. ⌜ r ≡ hosted h (levelCall (gameOf h) (now (draws .entry))) ⌝ }
 {
     let no = cutter_flags(h);
-    if no != refusal::NONE {
+    if no.number != refusal::NONE.number {
         return HostCutterAnswer {
             refusal: no,
             searched: 0,
@@ -112,7 +114,7 @@ pub extern "C" fn sumbadger_cutter_direction(h: HostCutter, dir: u8) -> HostCutt
     ensures { λ r. ⌜ r ≡ hosted h (directionCall (gameOf h) dir) ⌝ }
 {
     let no = cutter_flags(h);
-    if no != refusal::NONE {
+    if no.number != refusal::NONE.number {
         return HostCutterAnswer {
             refusal: no,
             searched: 0,
@@ -129,7 +131,7 @@ pub extern "C" fn sumbadger_cutter_step_player(h: HostCutter) -> HostCutterAnswe
     ensures { λ r. ⌜ r ≡ hosted h (stepCall (gameOf h)) ⌝ }
 {
     let no = cutter_flags(h);
-    if no != refusal::NONE {
+    if no.number != refusal::NONE.number {
         return HostCutterAnswer {
             refusal: no,
             searched: 0,
@@ -146,7 +148,7 @@ pub extern "C" fn sumbadger_cutter_step_by_sweeps(h: HostCutter) -> HostCutterAn
     ensures { λ r. ⌜ r ≡ hosted h (sweepsCall (gameOf h)) ⌝ }
 {
     let no = cutter_flags(h);
-    if no != refusal::NONE {
+    if no.number != refusal::NONE.number {
         return HostCutterAnswer {
             refusal: no,
             searched: 0,
@@ -163,7 +165,7 @@ pub extern "C" fn sumbadger_cutter_step_enemies(h: HostCutter) -> HostCutterAnsw
     ensures { λ r. ⌜ r ≡ hosted h (enemiesCall (gameOf h)) ⌝ }
 {
     let no = cutter_flags(h);
-    if no != refusal::NONE {
+    if no.number != refusal::NONE.number {
         return HostCutterAnswer {
             refusal: no,
             searched: 0,
@@ -180,7 +182,7 @@ pub extern "C" fn sumbadger_cutter_respawn(h: HostCutter) -> HostCutterAnswer
     ensures { λ r. ⌜ r ≡ hosted h (respawnCall (gameOf h)) ⌝ }
 {
     let no = cutter_flags(h);
-    if no != refusal::NONE {
+    if no.number != refusal::NONE.number {
         return HostCutterAnswer {
             refusal: no,
             searched: 0,
@@ -203,7 +205,7 @@ pub extern "C" fn sumbadger_cutter_pass(
     ensures { λ r. ⌜ r ≡ hostedPass h marks (passAt (gameOf h) (now (keys .entry)) (now (draws .entry)) time (marks .first) (marks .second)) ⌝ }
 {
     let no = cutter_flags(h);
-    if no != refusal::NONE {
+    if no.number != refusal::NONE.number {
         return HostCutterPassed {
             refusal: no,
             answer: answer::number(Answer::GoingOn),
@@ -222,7 +224,7 @@ pub extern "C" fn sumbadger_cutter_render(h: HostCutter, frame: &mut [u8]) -> Re
     ensures { λ r. ⌜ (r, now (frame .exit)) ≡ refusedOr (flagsOf h) (λ n. (n, now (frame .entry))) (pictureOf (gameOf h) (now (frame .entry))) ⌝ }
 {
     let no = cutter_flags(h);
-    if no != refusal::NONE {
+    if no.number != refusal::NONE.number {
         return no;
     }
     cutter::render(cutter_game(h), frame)
@@ -234,7 +236,7 @@ pub extern "C" fn sumbadger_cutter_ground_report(h: HostCutter) -> Ground
     ensures { λ r. ⌜ r ≡ refusedOr (flagsOf h) unreported (reportCall (gameOf h)) ⌝ }
 {
     let no = cutter_flags(h);
-    if no != refusal::NONE {
+    if no.number != refusal::NONE.number {
         return Ground {
             refusal: no,
             black: 0,

@@ -48,9 +48,10 @@ pub struct HostEnemies {
 fn answer_out(a: MineAnswer) -> HostMineAnswer
     ensures { λ r. ⌜ r ≡ answerOut a ⌝ }
 {
+    let no = a.refusal;
     let game = a.game;
     HostMineAnswer {
-        refusal: a.refusal,
+        refusal: no,
         game: mine_host(game),
     }
 }
@@ -59,6 +60,7 @@ fn turn_out(t: MineTurn) -> HostMinePassed
     ensures { λ r. ⌜ r ≡ turnOut t ⌝ }
 {
     let passed = t.passed;
+    let no = passed.refusal;
     let said = passed.answer;
     let game = passed.game;
     let marks = Pace {
@@ -66,7 +68,7 @@ fn turn_out(t: MineTurn) -> HostMinePassed
         second: t.second,
     };
     HostMinePassed {
-        refusal: passed.refusal,
+        refusal: no,
         answer: answer::number(said),
         marks: marks,
         game: mine_host(game),
@@ -87,7 +89,7 @@ pub extern "C" fn sumbadger_mine_step_player(h: HostMine, dir: u8) -> HostMineAn
     ensures { λ r. ⌜ r ≡ hosted h (moveCall (gameOf h) dir) ⌝ }
 {
     let no = mine_flags(h);
-    if no != refusal::NONE {
+    if no.number != refusal::NONE.number {
         return HostMineAnswer {
             refusal: no,
             game: h,
@@ -102,7 +104,7 @@ pub extern "C" fn sumbadger_mine_gravity(h: HostMine) -> HostMineAnswer
     ensures { λ r. ⌜ r ≡ hosted h (gravityCall (gameOf h)) ⌝ }
 {
     let no = mine_flags(h);
-    if no != refusal::NONE {
+    if no.number != refusal::NONE.number {
         return HostMineAnswer {
             refusal: no,
             game: h,
@@ -117,7 +119,7 @@ pub extern "C" fn sumbadger_mine_move_enemies(h: HostMine) -> HostMineAnswer
     ensures { λ r. ⌜ r ≡ hosted h (tickCall (gameOf h)) ⌝ }
 {
     let no = mine_flags(h);
-    if no != refusal::NONE {
+    if no.number != refusal::NONE.number {
         return HostMineAnswer {
             refusal: no,
             game: h,
@@ -137,7 +139,7 @@ pub extern "C" fn sumbadger_mine_pass(
     ensures { λ r. ⌜ r ≡ hostedPass h marks (passAt (gameOf h) (now (keys .entry)) time (marks .first) (marks .second)) ⌝ }
 {
     let no = mine_flags(h);
-    if no != refusal::NONE {
+    if no.number != refusal::NONE.number {
         return HostMinePassed {
             refusal: no,
             answer: answer::number(Answer::GoingOn),
@@ -154,7 +156,7 @@ pub extern "C" fn sumbadger_mine_render(h: HostMine, frame: &mut [u8]) -> Refusa
     ensures { λ r. ⌜ (r, now (frame .exit)) ≡ refusedOr (flagsOf h) (λ n. (n, now (frame .entry))) (pictureOf (gameOf h) (now (frame .entry))) ⌝ }
 {
     let no = mine_flags(h);
-    if no != refusal::NONE {
+    if no.number != refusal::NONE.number {
         return no;
     }
     mine::render(mine_game(h), frame)

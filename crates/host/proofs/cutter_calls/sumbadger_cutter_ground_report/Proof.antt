@@ -8,14 +8,15 @@ use Rattle.host.proofs.cutter_calls.sumbadger_cutter_ground_report.Stat
 use Rattle.host.proofs.cutter_calls.sumbadger_cutter_ground_report.Tie as tie
 
 returns : tie.Need-returns
-returns c = turned-away unreported _ (c .before .cutter-flags .ensures) (c .if1 .taken)
+returns c = turned-away unreported _ (c .before .before .before .cutter-flags .ensures) (c .if1 .taken)
 
 returns-2 : tie.Need-returns-2
 returns-2 c =
-    let f = c .before .before .before in
+    let i = c .before .before in
+    let f = i .before .before .before in
     let-in unreported (reportCall (gameOf (f .before .args .h))) (f .cutter-flags .ensures)
     (c .ground-report .ensures ∙ ap reportCall (c .before .cutter-game .ensures))
-    (c .before .before .if1 .left)
+    (i .if1 .left)
 
 pub sumbadger-cutter-ground-report-spec : {M : Type 1} → statement M
 sumbadger-cutter-ground-report-spec =

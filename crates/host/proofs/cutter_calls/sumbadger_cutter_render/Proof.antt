@@ -1,7 +1,7 @@
 -- `host::sumbadger_cutter_render` meets its contract. Assumes nothing.
 use mathlib.Core.Path.{ap, _∙_}
-use Prim.Native.Nat.{ℕ}
 use borrow.Author.Needs.{needs}
+use Rattle.refusal.specs.declared.Refusal.{Refusal}
 use Rattle.refusal.proofs.Calls.{turned-away, let-in}
 use Rattle.cutter_state.specs.declared.Cutter.{Cutter}
 use Rattle.cutter.specs.Picture.{pictureOf}
@@ -11,15 +11,17 @@ use Rattle.host.proofs.cutter_calls.sumbadger_cutter_render.Tie as tie
 
 returns : tie.Need-returns
 returns c =
-    let l = c .before .before .before .args .frame .now in
-    turned-away (λ (n : ℕ). (n, l)) _ (c .before .cutter-flags .ensures) (c .if1 .taken)
+    let f = c .before .before .before in
+    let l = f .before .before .args .frame .now in
+    turned-away (λ (n : Refusal). (n, l)) _ (f .cutter-flags .ensures) (c .if1 .taken)
 
 returns-2 : tie.Need-returns-2
 returns-2 c =
     let k = c .before .before .before .before in
-    let a = k .before .before .before .before .args in
+    let f = k .before .before .before .before in
+    let a = f .before .before .args in
     let l = a .frame .now in
-    let-in (λ (n : ℕ). (n, l)) (pictureOf (gameOf (a .h)) l) (k .before .before .cutter-flags .ensures)
+    let-in (λ (n : Refusal). (n, l)) (pictureOf (gameOf (a .h)) l) (f .cutter-flags .ensures)
     (c .before .before .render .ensures ∙ ap (λ (s : Cutter). pictureOf s l) (k .cutter-game .ensures))
     (k .before .if1 .left)
 

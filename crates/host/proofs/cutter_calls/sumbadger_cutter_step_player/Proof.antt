@@ -6,13 +6,16 @@ use Rattle.host.proofs.cutter_calls.sumbadger_cutter_step_player.Statem
 use Rattle.host.proofs.cutter_calls.sumbadger_cutter_step_player.Tie as tie
 
 returns : tie.Need-returns
-returns c = cutter-refused (c .before .before .args .h) (c .before .cutter-flags .ensures) _ (c .if1 .taken)
+returns c =
+    let f = c .before .before .before in
+    cutter-refused (f .before .args .h) (f .cutter-flags .ensures) _ (c .if1 .taken)
 
 returns-2 : tie.Need-returns-2
 returns-2 c =
     let i = c .before .before .before in
-    let a = i .before .before .args in
-    cutter-handed (a .h) (i .before .cutter-flags .ensures) stepCall (i .if1 .left)
+    let f = i .before .before .before in
+    let a = f .before .args in
+    cutter-handed (a .h) (f .cutter-flags .ensures) stepCall (i .if1 .left)
     (c .before .before .cutter-game .ensures) (c .before .step-player .ensures) (c .answer-out .ensures)
 
 pub sumbadger-cutter-step-player-spec : {M : Type 1} → statement M

@@ -6,13 +6,16 @@ use Rattle.host.proofs.mine_calls.sumbadger_mine_move_enemies.Statement
 use Rattle.host.proofs.mine_calls.sumbadger_mine_move_enemies.Tie as tie
 
 returns : tie.Need-returns
-returns c = mine-refused (c .before .before .args .h) (c .before .mine-flags .ensures) _ (c .if1 .taken)
+returns c =
+    let f = c .before .before .before in
+    mine-refused (f .before .args .h) (f .mine-flags .ensures) _ (c .if1 .taken)
 
 returns-2 : tie.Need-returns-2
 returns-2 c =
     let i = c .before .before .before in
-    let a = i .before .before .args in
-    mine-handed (a .h) (i .before .mine-flags .ensures) tickCall (i .if1 .left)
+    let f = i .before .before .before in
+    let a = f .before .args in
+    mine-handed (a .h) (f .mine-flags .ensures) tickCall (i .if1 .left)
     (c .before .before .mine-game .ensures) (c .before .move-enemies .ensures) (c .answer-out .ensures)
 
 pub sumbadger-mine-move-enemies-spec : {M : Type 1} → statement M

@@ -10,7 +10,7 @@ use Rattle.host.proofs.mine_calls.sumbadger_mine_pass.Tie as tie
 returns : tie.Need-returns
 unfolding hostedPass
 returns c =
-    let f = c .before .before in
+    let f = c .before .before .before .before in
     let a = f .before .before .args in
     rw (c .number .ensures) (turned-away (refusedPass (a .h) (a .marks)) _ (f .mine-flags .ensures) (c .before .if1 .taken))
 
@@ -18,9 +18,10 @@ returns-2 : tie.Need-returns-2
 unfolding hostedPass
 returns-2 c =
     let i = c .before .before .before in
-    let a = i .before .before .before .args in
+    let f = i .before .before .before in
+    let a = f .before .before .args in
     handed (refusedPass (a .h) (a .marks)) turnOut (λ s. passAt s (a .keys .now) (a .time) (a .marks .first) (a .marks .second))
-    (i .before .mine-flags .ensures) (i .if1 .left) (c .before .before .mine-game .ensures) (c .before .pass-marks .ensures) (c .turn-out .ensures)
+    (f .mine-flags .ensures) (i .if1 .left) (c .before .before .mine-game .ensures) (c .before .pass-marks .ensures) (c .turn-out .ensures)
 
 pub sumbadger-mine-pass-spec : {M : Type 1} → statement M
 sumbadger-mine-pass-spec =

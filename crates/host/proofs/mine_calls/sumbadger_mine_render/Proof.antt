@@ -1,7 +1,7 @@
 -- `host::sumbadger_mine_render` meets its contract. Assumes nothing.
 use mathlib.Core.Path.{ap, _∙_}
-use Prim.Native.Nat.{ℕ}
 use borrow.Author.Needs.{needs}
+use Rattle.refusal.specs.declared.Refusal.{Refusal}
 use Rattle.refusal.proofs.Calls.{turned-away, let-in}
 use Rattle.mine_state.specs.declared.Mine.{Mine}
 use Rattle.mine.specs.Picture.{pictureOf}
@@ -11,15 +11,17 @@ use Rattle.host.proofs.mine_calls.sumbadger_mine_render.Tie as tie
 
 returns : tie.Need-returns
 returns c =
-    let l = c .before .before .before .args .frame .now in
-    turned-away (λ (n : ℕ). (n, l)) _ (c .before .mine-flags .ensures) (c .if1 .taken)
+    let f = c .before .before .before in
+    let l = f .before .before .args .frame .now in
+    turned-away (λ (n : Refusal). (n, l)) _ (f .mine-flags .ensures) (c .if1 .taken)
 
 returns-2 : tie.Need-returns-2
 returns-2 c =
     let k = c .before .before .before .before in
-    let a = k .before .before .before .before .args in
+    let f = k .before .before .before .before in
+    let a = f .before .before .args in
     let l = a .frame .now in
-    let-in (λ (n : ℕ). (n, l)) (pictureOf (gameOf (a .h)) l) (k .before .before .mine-flags .ensures)
+    let-in (λ (n : Refusal). (n, l)) (pictureOf (gameOf (a .h)) l) (f .mine-flags .ensures)
     (c .before .before .render .ensures ∙ ap (λ (s : Mine). pictureOf s l) (k .mine-game .ensures))
     (k .before .if1 .left)
 
