@@ -9,7 +9,7 @@ pub mod cutter;
 pub mod mine;
 
 use crate::bytes::Field;
-use crate::check::Refusal;
+use crate::check::{NONE, Refusal};
 use crate::costs::{self, Cost};
 use crate::games::Answer;
 use crate::stand_ins::catcard_app::screen::{FRAME, STALE, WIDTH};
@@ -39,7 +39,7 @@ pub enum Call {
     Page { number: usize, frame: Vec<u8> },
 }
 
-/// What a call gives besides the state and the record. A refusal of 0 is none.
+/// What a call gives besides the state and the record.
 #[derive(Clone, Debug, PartialEq, Eq)]
 pub struct Outcome {
     pub refusal: Refusal,
@@ -50,7 +50,7 @@ pub struct Outcome {
 impl Outcome {
     fn new(answer: Result<Answer, Refusal>, result: Vec<u8>) -> Self {
         Outcome {
-            refusal: answer.err().unwrap_or(0),
+            refusal: answer.err().unwrap_or(NONE),
             answer: answer.unwrap_or(Answer::GoingOn),
             result,
         }
@@ -66,7 +66,7 @@ impl Outcome {
 
     /// With the cells that the call's searches took; zeros where it was refused.
     fn costing(self, cost: impl FnOnce() -> Cost) -> Self {
-        let cost = if self.refusal == 0 { cost() } else { Cost::default() };
+        let cost = if self.refusal == NONE { cost() } else { Cost::default() };
         let mut result = Vec::new();
         cost.put(&mut result);
         Outcome { result, ..self }

@@ -6,7 +6,7 @@ use std::fmt::Write;
 
 use crate::bytes::Field;
 use crate::calls::{Call, Outcome, page};
-use crate::check::{self, CELLS_BAD, NUMBERS_BAD, Refusal, ensure};
+use crate::check::{self, CELLS_BAD, NONE, NUMBERS_BAD, Refusal, ensure};
 use crate::costs::Cost;
 use crate::lines::text;
 use crate::state::{Cutter, Game, Mine, Pace, State};
@@ -57,17 +57,21 @@ pub fn played(script: &str) -> String {
 fn play(state: &mut State, name: &str, n: &Numbers, out: &mut String) {
     let call = match name {
         "page" => return put(out, &part(n.size(0), n.size(1))),
-        "mine_try" | "cutter_try" => return put(out, &tried(state, n)),
+        "mine_try" | "cutter_try" => {
+            put(out, &[tried(state, n)]);
+            return put(out, &[1]);
+        }
         _ => call_of(state, name, n),
     };
     let before = if let Call::NewRound(_) = call { zeros() } else { state.clone() };
     let outcome = state.make(&call).expect("a call of the current game");
-    let after = if outcome.refusal == 0 { &*state } else { &before };
+    let after = if outcome.refusal == NONE { &*state } else { &before };
     match call {
         Call::Start(_) => put(out, &[state.pace.first, state.pace.second]),
         Call::Load => put_state(out, after),
         Call::MinePass { .. } | Call::CutterPass { .. } => {
-            put(out, &[u32::from(outcome.refusal), outcome.answer as u32]);
+            put(out, &[outcome.refusal]);
+            put(out, &[outcome.answer as u8]);
             put_cost(out, after, &outcome);
             put(out, &[after.pace.first, after.pace.second]);
             put_state(out, after);
@@ -148,9 +152,9 @@ fn part(size: usize, number: usize) -> [usize; 2] {
     }
 }
 
-/// A state with bad fields: its refusal, and that every byte came back. The first number is a
+/// The refusal of a state with bad fields; every byte has to come back. The first number is a
 /// flag of cause 1, the next two are of cause 4.
-fn tried(state: &State, n: &Numbers) -> [Refusal; 2] {
+fn tried(state: &State, n: &Numbers) -> Refusal {
     let own = match &state.game {
         Game::Mine(m) => {
             let mut m = m.clone();
@@ -170,7 +174,7 @@ fn tried(state: &State, n: &Numbers) -> [Refusal; 2] {
         .and(own.or_else(|no| ensure(no == NUMBERS_BAD, no)))
         .and(ensure(flags(1, 3), NUMBERS_BAD))
         .and(own);
-    [refusal.expect_err("the script tries bad states alone"), 1]
+    refusal.expect_err("the script tries bad states alone")
 }
 
 fn put<T: ToString>(out: &mut String, numbers: &[T]) {
@@ -200,7 +204,7 @@ fn put_state(out: &mut String, state: &State) {
 fn put_frame(out: &mut String, outcome: &Outcome) {
     put(out, &[outcome.refusal]);
     put(out, &[sum(&outcome.result)]);
-    if outcome.refusal == 0 {
+    if outcome.refusal == NONE {
         let frame = outcome.result[..].try_into().expect("a whole frame");
         write!(out, "\n{}", text(frame).trim_end_matches('\n')).unwrap();
     }

@@ -18,6 +18,7 @@ pub mod mine_states;
 pub mod mine_variations;
 pub mod question_corners;
 pub mod readings;
+pub mod refusal_corners;
 pub mod sequences;
 pub mod variations;
 

@@ -14,6 +14,7 @@ const RECORD: usize = 8;
 struct Entry {
     call: u8,
     refusal: u8,
+    at: u16,
     answer: u8,
     arguments: Vec<u8>,
     state: Vec<u8>,
@@ -31,6 +32,7 @@ impl Entry {
 pub enum Part {
     Unreadable,
     Refusal,
+    Place,
     Answer,
     State(usize),
     Record(usize),
@@ -42,6 +44,7 @@ impl fmt::Display for Part {
         match self {
             Part::Unreadable => write!(f, "cannot be read"),
             Part::Refusal => write!(f, "refusal differs"),
+            Part::Place => write!(f, "place differs"),
             Part::Answer => write!(f, "answer differs"),
             Part::State(byte) => write!(f, "state differs at byte {byte}"),
             Part::Record(byte) => write!(f, "record differs at byte {byte}"),
@@ -148,11 +151,12 @@ fn take(input: &mut impl Read, length: usize) -> io::Result<Vec<u8>> {
     Ok(bytes)
 }
 
-/// The entry with this header; `None` where the input ends early or a reserved byte is set.
+/// The entry with this header; `None` where the input ends early or the reserved byte is set.
 fn read_entry(header: &[u8], input: &mut impl Read) -> io::Result<Option<Entry>> {
-    let &[call, refusal, answer, 0, a, b, c, d, e, f, 0, 0] = header else {
+    let &[call, refusal, answer, 0, a, b, c, d, e, f, g, h] = header else {
         return Ok(None);
     };
+    let at = u16::from_le_bytes([g, h]);
     let mut part = |low, high| {
         let length = usize::from(u16::from_le_bytes([low, high]));
         take(input, length).map(|bytes| (bytes.len() == length).then_some(bytes))
@@ -161,7 +165,7 @@ fn read_entry(header: &[u8], input: &mut impl Read) -> io::Result<Option<Entry>>
     let (Some(arguments), Some(state), Some(result)) = (arguments, state, result) else {
         return Ok(None);
     };
-    Ok(Some(Entry { call, refusal, answer, arguments, state, result }))
+    Ok(Some(Entry { call, refusal, at, answer, arguments, state, result }))
 }
 
 /// Makes the entry's call on the current state, which becomes the trace's, and compares.
@@ -176,7 +180,7 @@ fn replay_entry(
         bytes => Some(State::from_bytes(bytes).ok_or(Part::Unreadable)?),
     };
     if entry.call == 0 {
-        let bare = entry.refusal == 0 && entry.answer == 0;
+        let bare = (entry.refusal, entry.at, entry.answer) == (0, 0, 0);
         let alone = entry.arguments.is_empty() && entry.result.is_empty();
         *current = (bare && alone).then_some(given).flatten();
         return current.as_ref().map(|_| ()).ok_or(Part::Unreadable);
@@ -192,8 +196,12 @@ fn replay_entry(
 }
 
 fn compare(entry: &Entry, ours: &Outcome, before: &State, after: &State) -> Result<(), Part> {
-    if entry.refusal != ours.refusal {
+    if entry.refusal != ours.refusal.number {
         return Err(Part::Refusal);
+    }
+    // A place that two bytes don't hold is written as their last number.
+    if usize::from(entry.at) != ours.refusal.at.min(65_535) {
+        return Err(Part::Place);
     }
     if entry.answer != ours.answer as u8 {
         return Err(Part::Answer);

@@ -2,6 +2,7 @@
 
 use crate::bytes::Field;
 use crate::calls::{Call, Outcome};
+use crate::check::Refusal;
 use crate::state::State;
 
 /// Entry 0 sets the current state.
@@ -28,7 +29,7 @@ impl Trace {
     }
 
     pub fn set(&mut self, state: State) {
-        self.entry([SET, 0, 0], &[], &state.to_bytes(), &[]);
+        self.entry([SET, 0, 0], 0, &[], &state.to_bytes(), &[]);
         self.state = state;
     }
 
@@ -38,8 +39,9 @@ impl Trace {
         let outcome = self.state.make(&call).expect("a call of the current game");
         let changed = self.state != before;
         let after = if changed { self.state.to_bytes() } else { Vec::new() };
-        let head = [number(&call), outcome.refusal, outcome.answer as u8];
-        self.entry(head, &arguments(&call), &after, &outcome.result);
+        let Refusal { number: refusal, at } = outcome.refusal;
+        let head = [number(&call), refusal, outcome.answer as u8];
+        self.entry(head, at, &arguments(&call), &after, &outcome.result);
         self.calls += 1;
         outcome
     }
@@ -62,14 +64,14 @@ impl Trace {
         self.call(Call::StepBySweeps);
     }
 
-    fn entry(&mut self, head: [u8; 3], arguments: &[u8], state: &[u8], result: &[u8]) {
+    fn entry(&mut self, head: [u8; 3], at: usize, arguments: &[u8], state: &[u8], result: &[u8]) {
         let length = |part: &[u8]| u16::try_from(part.len()).expect("a part below 64 KiB");
         head.put(&mut self.bytes);
         0u8.put(&mut self.bytes);
         for part in [arguments, state, result] {
             length(part).put(&mut self.bytes);
         }
-        0u16.put(&mut self.bytes);
+        u16::try_from(at).unwrap_or(u16::MAX).put(&mut self.bytes);
         for part in [arguments, state, result] {
             self.bytes.extend(part);
         }

@@ -2,7 +2,7 @@
 
 use oracle::bytes::Field;
 use oracle::calls::Call;
-use oracle::check;
+use oracle::check::{self, NONE};
 use oracle::costs::{self, Cost, TOP};
 use oracle::games::{counted, cutter};
 use oracle::make::corners;
@@ -283,7 +283,7 @@ fn passes() {
         let call = Call::CutterPass { time, keys: keys.to_vec(), draws: vec![1; draws] };
         let outcome = state.make(&call).expect("a call of Cutter");
         let cost = Cost::take(&mut &outcome.result[..]).expect("two numbers");
-        (outcome.refusal, numbers(cost))
+        (outcome.refusal.number, numbers(cost))
     };
     let close = claimed_but(&[(20, 20), (40, 20)]).line(&[(1, 1)]).at((1, 1)).heading(UP);
     let cost = step(&close);
@@ -359,7 +359,7 @@ fn the_corners_hold_what_they_name() {
     let see = |seen: Seen| {
         let cost = Cost::take(&mut &seen.outcome.result[..]).expect("two numbers");
         assert_eq!(seen.outcome.result.len(), 4);
-        assert!(seen.outcome.refusal == 0 || cost == Cost::default());
+        assert!(seen.outcome.refusal == NONE || cost == Cost::default());
         costs.push((seen.entry, cost));
     };
     replay_seen(corners.trace.bytes.as_slice(), see).expect("in memory");

@@ -1,6 +1,7 @@
 //! Document 02 (iii): who is there, and how many.
 
 use oracle::calls::Call;
+use oracle::check::NONE;
 use oracle::games::mine;
 use oracle::make::{corners, mine_states};
 use oracle::replay::{Seen, replay_seen};
@@ -19,7 +20,7 @@ fn read(result: &[u8]) -> Option<[u64; 2]> {
 fn asked(call: Call) -> Option<[u64; 2]> {
     let game = Game::Mine(Box::new(mine::load()));
     let outcome = State { game, pace: Pace::default() }.make(&call).expect("a call of any game");
-    assert_eq!(outcome.refusal, 0);
+    assert_eq!(outcome.refusal, NONE);
     read(&outcome.result)
 }
 

@@ -1,7 +1,7 @@
 //! The checks, which are this crate's own and not the original's.
 
 use oracle::calls::{Call, cutter, mine};
-use oracle::check;
+use oracle::check::{self, COMMAND_BAD, DRAWS_BAD, FRAME_BAD, NONE, Refusal};
 use oracle::make::variations::Variation;
 use oracle::make::{
     BAD_FRAMES, battery, cutter_states, cutter_variations, mine_states, mine_variations,
@@ -11,22 +11,29 @@ use oracle::state::*;
 
 const STATES: usize = 5000;
 
-fn number(checked: Result<(), u8>) -> u8 {
-    checked.err().unwrap_or(0)
+/// What a check gives.
+type Checked = Result<(), Refusal>;
+
+fn refusal(checked: Checked) -> Refusal {
+    checked.err().unwrap_or(NONE)
 }
 
-fn earns<S>(base: fn() -> S, variations: &[Variation<S>], check: fn(&S) -> Result<(), u8>) {
+fn number(checked: Checked) -> u8 {
+    refusal(checked).number
+}
+
+fn earns<S>(base: fn() -> S, variations: &[Variation<S>], check: fn(&S) -> Checked) {
     for v in variations {
         let mut state = base();
         v.apply(&mut state);
-        assert_eq!(number(check(&state)), v.refusal, "{}", v.name);
+        assert_eq!(refusal(check(&state)), v.refusal, "{}", v.name);
     }
 }
 
 #[test]
 fn each_variation_earns_its_refusal() {
-    earns(mine_variations::base, &mine_variations::variations(), check::mine);
-    earns(cutter_variations::base, &cutter_variations::variations(), check::cutter);
+    earns(mine_variations::base, &mine_variations::boundaries(), check::mine);
+    earns(cutter_variations::base, &cutter_variations::boundaries(), check::cutter);
     earns(cutter_variations::drawing, &cutter_variations::drawing_variations(), check::cutter);
 }
 
@@ -56,7 +63,7 @@ fn random_states_are_well_formed() {
 
 /// Every call on a refused state gives the state's refusal, whatever its arguments, and
 /// changes neither state nor record nor frame.
-fn all_refused(game: Game, calls: Vec<Call>, refusal: u8, name: &str) {
+fn all_refused(game: Game, calls: Vec<Call>, refusal: Refusal, name: &str) {
     let before = State { game, pace: Pace { first: 3, second: 4 } };
     for call in calls {
         let mut state = before.clone();
@@ -73,12 +80,12 @@ fn all_refused(game: Game, calls: Vec<Call>, refusal: u8, name: &str) {
 #[test]
 fn a_refused_call_changes_nothing() {
     let pace = Pace { first: 3, second: 4 };
-    for v in mine_variations::variations().iter().filter(|v| v.refusal != 0) {
+    for v in mine_variations::variations().iter().filter(|v| v.refusal != NONE) {
         let mut m = mine_variations::base();
         v.apply(&mut m);
         all_refused(Game::Mine(Box::new(m)), battery::mine(&pace, 1024), v.refusal, &v.name);
     }
-    for v in cutter_variations::variations().iter().filter(|v| v.refusal != 0) {
+    for v in cutter_variations::variations().iter().filter(|v| v.refusal != NONE) {
         for won_level in [false, true] {
             let mut c = Cutter { won_level, ..cutter_variations::base() };
             v.apply(&mut c);
@@ -88,28 +95,34 @@ fn a_refused_call_changes_nothing() {
     }
 }
 
-/// The first of two causes in the order 1, 2, 3, 4 is given, whichever came first.
+/// The first of two causes in the order 1, 2, 31 to 36, 4 is given, whichever came first.
 #[test]
 fn states_with_two_causes() {
     type Change<S> = (u8, fn(&mut S));
-    let mine: [Change<Mine>; 4] =
-        [(1, |m| m.grid[335] = 6), (2, |m| m.px = 24), (3, |m| m.count = 9), (4, |m| m.needed = 0)];
-    let cutter: [Change<Cutter>; 4] = [
+    let mine: [Change<Mine>; 5] = [
+        (1, |m| m.grid[335] = 6),
+        (2, |m| m.px = 24),
+        (31, |m| m.count = 9),
+        (36, |m| m.enemies[7].x = 1),
+        (4, |m| m.needed = 0),
+    ];
+    let cutter: [Change<Cutter>; 5] = [
         (1, |c| c.grid[0] = BLACK),
         (2, |c| c.dx = -128),
-        (3, |c| c.enemies[0].vx = 0),
+        (34, |c| c.enemies[0].vx = 0),
+        (36, |c| c.enemies[15].x = 1),
         (4, |c| c.lives = 4),
     ];
-    for i in 0..4 {
-        for j in 0..4 {
+    for i in 0..5 {
+        for j in 0..5 {
             let mut m = mine_variations::base();
             (mine[i].1)(&mut m);
             (mine[j].1)(&mut m);
-            assert_eq!(number(check::mine(&m)), mine[i].0.min(mine[j].0));
+            assert_eq!(number(check::mine(&m)), mine[i.min(j)].0);
             let mut c = cutter_variations::base();
             (cutter[i].1)(&mut c);
             (cutter[j].1)(&mut c);
-            assert_eq!(number(check::cutter(&c)), cutter[i].0.min(cutter[j].0));
+            assert_eq!(number(check::cutter(&c)), cutter[i.min(j)].0);
         }
     }
 }
@@ -117,14 +130,14 @@ fn states_with_two_causes() {
 #[test]
 fn commands_and_frames() {
     for dir in 0..=255 {
-        let expected = if dir < 4 { Ok(()) } else { Err(5) };
+        let expected = if dir < 4 { Ok(()) } else { Err(COMMAND_BAD) };
         assert_eq!(mine::step_player(&mut mine_variations::base(), dir), expected);
         assert_eq!(cutter::direction(&mut cutter_variations::base(), dir), expected);
     }
     for length in BAD_FRAMES {
         let mut frame = vec![7; length.into()];
-        assert_eq!(mine::render(&mine_variations::base(), &mut frame), Err(6));
-        assert_eq!(cutter::render(&cutter_variations::base(), &mut frame), Err(6));
+        assert_eq!(mine::render(&mine_variations::base(), &mut frame), Err(FRAME_BAD));
+        assert_eq!(cutter::render(&cutter_variations::base(), &mut frame), Err(FRAME_BAD));
         assert_eq!(frame, vec![7; length.into()]);
     }
 }
@@ -135,7 +148,7 @@ fn draws_of_a_new_round() {
     let bad: [&[u8]; 7] =
         [&[62, 0, 0, 0], &[0, 30, 0, 0], &[0, 0, 2, 0], &[0, 0, 0, 2], &[0; 3], &[0; 5], &[]];
     for draws in bad {
-        assert_eq!(cutter::new_round(draws), Err(7));
+        assert_eq!(cutter::new_round(draws), Err(DRAWS_BAD));
     }
 }
 
@@ -146,7 +159,7 @@ fn pass(c: &Cutter, draws: usize) -> u8 {
     if answer.is_err() {
         assert_eq!((after, pace), (before, Pace::default()));
     }
-    answer.err().unwrap_or(0)
+    answer.err().unwrap_or(NONE).number
 }
 
 #[test]
@@ -169,5 +182,5 @@ fn the_last_level() {
     let dead = Cutter { dead: true, ..last.clone() };
     assert_eq!(pass(&dead, 0), 0, "a respawn comes first");
     assert_eq!(cutter::new_level(&mut last.clone(), &[0; 64]), Ok(()));
-    assert_eq!(cutter::new_level(&mut last.clone(), &[0; 60]), Err(7));
+    assert_eq!(cutter::new_level(&mut last.clone(), &[0; 60]), Err(DRAWS_BAD));
 }

@@ -42,6 +42,9 @@ fn small() -> Trace {
     trace.call(Call::MinePicture(3));
     trace.call(Call::MineWho { x: 9, y: 9, list: vec![Enemy { x: 9, y: 9, dir: 1 }] });
     trace.call(Call::Page { number: 7, frame: vec![9; 1024] });
+    let m = walled((5, 5), &[]).peopled(&[(9, 9, UP), (9, 9, UP)]);
+    trace.set(State { game: Game::Mine(Box::new(m)), pace: Pace::default() });
+    trace.call(Call::Gravity);
     trace.call(Call::NewRound(vec![9, 9, 1, 1]));
     trace.call(Call::NewRound(vec![9, 9, 1]));
     trace.call(Call::Ground);
@@ -90,6 +93,8 @@ fn the_first_difference_is_told() {
         ("result", Part::Result(0)),
         ("frame", Part::Result(1023)),
         ("cost", Part::Result(2)),
+        ("place", Part::Place),
+        ("place-high", Part::Place),
     ];
     assert_eq!(parts.map(|(name, _)| name), PARTS);
     for (name, part) in parts {
@@ -97,7 +102,7 @@ fn the_first_difference_is_told() {
         let report = report(&trace);
         let first = report.first.expect("a difference");
         assert_eq!((first.entry, first.part), (entry, part), "{name}");
-        assert_eq!(report.calls, 6, "the run goes on");
+        assert_eq!(report.calls, 7, "the run goes on");
     }
 }
 
@@ -116,10 +121,10 @@ fn the_stored_damages() {
 #[test]
 fn a_difference_is_told_in_words() {
     let (trace, ..) = damaged("refusal").expect("a part");
-    let words = "entry 1 at 862, call 2: refusal differs\n6 calls, 1 differ\n";
+    let words = "entry 1 at 862, call 2: refusal differs\n7 calls, 1 differ\n";
     assert_eq!(report(&trace).to_string(), words);
     let clean = report(&small().bytes);
-    assert_eq!(clean.to_string(), "13 calls, 0 differ\n");
+    assert_eq!(clean.to_string(), "14 calls, 0 differ\n");
 }
 
 #[test]

@@ -1,9 +1,10 @@
 //! Traces: deterministic, wide enough, and every state that a call gives is well formed.
 
+use std::collections::BTreeMap;
 use std::fs;
 
 use oracle::calls::Call;
-use oracle::check;
+use oracle::check::{self, NONE};
 use oracle::games::{Answer, counted, cutter};
 use oracle::make::corners::{self, Corners};
 use oracle::make::{cutter_variations, sequences};
@@ -17,6 +18,9 @@ const SEQUENCES: usize = 800;
 const MEGABYTE: usize = 1_000_000;
 /// Every call of the format.
 const CALLS: [u8; 20] = [1, 2, 3, 4, 5, 6, 7, 17, 18, 19, 20, 21, 22, 23, 24, 25, 26, 29, 32, 33];
+
+/// Every refusal number, and 0 for none.
+const REFUSALS: [u8; 14] = [0, 1, 2, 4, 5, 6, 7, 8, 31, 32, 33, 34, 35, 36];
 
 fn random(seed: u64, sequences: usize) -> Vec<u8> {
     let mut trace = sequences::start();
@@ -61,8 +65,9 @@ fn the_corners_have_everything_each_trace_below_a_megabyte() {
     for call in CALLS {
         assert!(seen.iter().any(|h| h[0] == call), "no call {call}");
     }
-    for refusal in 0..=8 {
-        assert!(seen.iter().any(|h| h[1] == refusal), "no refusal {refusal}");
+    for refusal in 0..=255 {
+        let there = seen.iter().any(|h| h[1] == refusal);
+        assert_eq!(there, REFUSALS.contains(&refusal), "refusal {refusal}");
     }
     for answer in 0..=4 {
         assert!(seen.iter().any(|h| h[2] == answer), "no answer {answer}");
@@ -253,14 +258,14 @@ struct Tally {
     levels: usize,
     overs: usize,
     breaches: usize,
-    refusals: [usize; 9],
+    refusals: BTreeMap<u8, usize>,
 }
 
 impl Tally {
     fn see(&mut self, seen: &Seen) {
         let refusal = seen.outcome.refusal;
-        self.refusals[usize::from(refusal)] += 1;
-        if refusal != 0 {
+        *self.refusals.entry(refusal.number).or_default() += 1;
+        if refusal != NONE {
             assert_eq!(seen.before, seen.after);
             return;
         }
@@ -374,10 +379,10 @@ fn random_traces_are_wide_and_well_formed() {
     assert!([pushes, squashes, falls, wins, deaths].iter().all(|&n| n > 20), "{tally:?}");
     let Tally { closings, many_regions, ties, walks, respawns, .. } = tally;
     assert!([closings, many_regions, ties, walks, respawns].iter().all(|&n| n > 10), "{tally:?}");
-    let Tally { levels, overs, breaches, refusals, .. } = tally;
+    let Tally { levels, overs, breaches, ref refusals, .. } = tally;
     assert!([levels, overs, breaches].iter().all(|&n| n > 20), "{tally:?}");
     assert!(tally.swept == closings && pairs.last.is_none() && pairs.number > 5_000, "{tally:?}");
-    assert!(refusals.iter().all(|&n| n > 20), "{tally:?}");
+    assert!(refusals.keys().eq(&REFUSALS) && refusals.values().all(|&n| n > 5), "{tally:?}");
 }
 
 /// The entries that a program's first lines tell of are where corners begin.

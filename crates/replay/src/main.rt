@@ -1,11 +1,12 @@
 // Replays a trace from standard input to its end: makes each call, and compares every byte of
-// refusal, answer, state, record and result. Tells the first difference, then `N calls, D differ`.
+// refusal and its place, answer, state, record and result. Tells the first difference, then `N
+// calls, D differ`.
 //
-// stdin: what the oracle's `trace_oracle corners` writes, 318 corners of the rules with every call
-// and every refusal number; `trace_oracle corners-list` names each, with the entry that it begins
-// at. stdout: what `replay_oracle` tells of it. A step that changes nothing, as on every ill-formed
-// state, is made by sweeps right behind it; the others are in `replay_swept`. Closings and walks to
-// the border are in `replay_closings`. Among them, by entry:
+// stdin: what the oracle's `trace_oracle corners` writes, 245 corners of the rules with every call;
+// `trace_oracle corners-list` names each, with the entry that it begins at. stdout: what
+// `replay_oracle` tells of it. A step that changes nothing is made by sweeps right behind it; the
+// others are in `replay_swept`. Closings and walks to the border are in `replay_closings`, ill-formed
+// states in `replay_refused`. Among them, by entry:
 //   249  Mine won and dead: won
 //   260  keys that are ignored, on open ground
 //   286  the nearest readings on each side of the intervals of gravity and creatures, from mark 0;
@@ -22,8 +23,7 @@
 //   661  frames of a wrong length: 6; 669 the same for Cutter
 //   677  commands above 3: 5; 683 the same for Cutter
 //   689  questions on lists of their own
-//   771  ill-formed states: 1 to 4, each with every call on a state; Cutter's from 1143 on
-//  1077  Mine states with a field at a boundary, accepted; Cutter's are in `replay_swept`
+//   771  Mine states with a field at a boundary, accepted; Cutter's are in `replay_swept`
 fn main() {
     trace_reading::replay(false);
 }

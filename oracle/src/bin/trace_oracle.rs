@@ -6,9 +6,9 @@ use oracle::make::damage::damaged;
 use oracle::make::{corners, sequences};
 use oracle::trace::Trace;
 
-const USAGE: &str = "usage: trace_oracle SEED SEQUENCES | corners | closings | swept | \
+const USAGE: &str = "usage: trace_oracle SEED SEQUENCES | corners | closings | refused | swept | \
                      corners-list | edges | \
-                     damaged refusal|answer|state|record|result|frame|cost";
+                     damaged refusal|answer|state|record|result|frame|cost|place|place-high";
 
 fn main() -> io::Result<()> {
     let words: Vec<String> = std::env::args().skip(1).collect();
@@ -26,6 +26,7 @@ fn main() -> io::Result<()> {
             return Ok(());
         }
         ["closings"] => corners::closings().trace,
+        ["refused"] => corners::refused().trace,
         ["swept"] => corners::corners().swept.expect("a trace apart"),
         ["edges"] => corners::edges(),
         ["damaged", part] => {

@@ -6,7 +6,7 @@ use super::cutter_corners::{pass, step};
 use super::cutter_grounds::*;
 use super::readings::STEP;
 use crate::calls::Call;
-use crate::check::LAST_LEVEL;
+use crate::check::{LAST_LEVEL, TURN_BAD};
 use crate::state::*;
 
 pub fn corners(out: &mut Corners) {
@@ -164,7 +164,7 @@ fn refused(out: &mut Corners) {
     let calls = vec![Call::Step, Call::Respawn, pass(STEP, &[], 0)];
     let spoils: [fn(&mut Cutter); 4] =
         [|c| c.grid[0] = BLACK, |c| c.px = CW, |c| c.enemies[0].vx = 0, |c| c.lives = 4];
-    for (spoil, number) in spoils.into_iter().zip(1..) {
+    for (spoil, number) in spoils.into_iter().zip([1, 2, TURN_BAD, 4]) {
         let mut c = far_apart();
         spoil(&mut c);
         out.cutter(&format!("a line about to close, refused by {number}"), &c, calls.clone());

@@ -1,20 +1,17 @@
 //! The corners: short traces with every call, every refusal and every case that was ever in
 //! doubt, each under a name. A program of the gate replays each trace.
 
-use super::variations::{FINE, Variation, causes};
+use super::variations::{FINE, Variation};
 use super::{
     BAD_FRAMES, battery, closing_corners, cutter_corners, cutter_variations, mine_corners,
-    mine_variations, question_corners, sequences,
+    mine_variations, question_corners, refusal_corners, sequences,
 };
 use crate::calls::Call;
-use crate::check::{CELLS_BAD, CREATURES_BAD, LAST_LEVEL, NUMBERS_BAD, PLAYER_BAD};
 use crate::stand_ins::catcard_app::screen::FRAME;
 use crate::state::*;
 use crate::trace::Trace;
 
 pub const PICTURE: u16 = FRAME as u16;
-/// A frame for pictures that are refused anyway.
-const SMALL: u16 = 4;
 /// A command that is refused, the last of the refusals before a picture's own.
 const BAD_COMMAND: u8 = 4;
 
@@ -74,19 +71,18 @@ impl Corners {
 
 /// The programs that replay corners, each with its own. One of [`corners`]' traces is for another
 /// program, `replay_swept`.
-pub fn all() -> [(&'static str, Corners); 2] {
-    [("replay", corners()), ("replay_closings", closings())]
+pub fn all() -> [(&'static str, Corners); 3] {
+    [("replay", corners()), ("replay_closings", closings()), ("replay_refused", refused())]
 }
 
-/// All but those of closings and walks.
+/// All but those of closings and walks, and of ill-formed states.
 pub fn corners() -> Corners {
     let mut out = Corners::swept_apart();
     mine_corners::corners(&mut out);
     cutter_corners::corners(&mut out);
     common(&mut out);
     question_corners::corners(&mut out);
-    mine_boundaries(&mut out);
-    cutter_boundaries(&mut out);
+    mine_accepted(&mut out);
     cutter_edges(out.swept.as_mut().expect("a trace apart"));
     out
 }
@@ -95,6 +91,13 @@ pub fn corners() -> Corners {
 pub fn closings() -> Corners {
     let mut out = Corners::both_ways();
     closing_corners::corners(&mut out);
+    out
+}
+
+/// Ill-formed states.
+pub fn refused() -> Corners {
+    let mut out = Corners::both_ways();
+    refusal_corners::corners(&mut out);
     out
 }
 
@@ -121,19 +124,11 @@ fn common(out: &mut Corners) {
     out.cutter("Cutter commands refused", &cutter, commands.map(Call::Direction).to_vec());
 }
 
-/// The first variation with each refusal of a state, in pairs.
-fn pairs<S>(variations: &[Variation<S>]) -> Vec<[&Variation<S>; 2]> {
-    let first = |refusal| variations.iter().find(|v| v.refusal == refusal);
-    let each: Vec<_> = [CELLS_BAD, PLAYER_BAD, CREATURES_BAD, NUMBERS_BAD]
-        .into_iter()
-        .map(|refusal| first(refusal).expect("a variation for each refusal"))
-        .collect();
-    let below = |j: usize| (0..j).map(move |i| (i, j));
-    (0..each.len()).flat_map(below).map(|(i, j)| [each[i], each[j]]).collect()
-}
-
 /// The state that each variation makes of a base, with its name.
-fn varied<S>(base: fn() -> S, variations: &[Variation<S>]) -> impl Iterator<Item = (&str, S)> {
+pub(super) fn varied<S>(
+    base: fn() -> S,
+    variations: &[Variation<S>],
+) -> impl Iterator<Item = (&str, S)> {
     variations.iter().map(move |v| {
         let mut state = base();
         v.apply(&mut state);
@@ -141,46 +136,16 @@ fn varied<S>(base: fn() -> S, variations: &[Variation<S>]) -> impl Iterator<Item
     })
 }
 
-fn mine_boundaries(out: &mut Corners) {
-    let pace = Pace::default();
-    let causes = causes(mine_variations::boundaries());
-    for (name, m) in varied(mine_variations::base, &causes) {
-        out.mine(&format!("Mine refused: {name}"), &m, battery::mine(&pace, SMALL));
-    }
-    for (i, [one, two]) in pairs(&causes).into_iter().enumerate() {
-        let mut m = mine_variations::base();
-        one.apply(&mut m);
-        two.apply(&mut m);
-        let name = format!("Mine order: {} and {}", one.name, two.name);
-        out.mine(&name, &m, battery::mine(&pace, if i == 0 { PICTURE } else { SMALL }));
-    }
-    let mut fine: Vec<Mine> = Vec::new();
-    for v in mine_variations::boundaries().into_iter().filter(|v| v.refusal == FINE) {
-        let mut m = mine_variations::base();
-        v.apply(&mut m);
+fn mine_accepted(out: &mut Corners) {
+    let mut fine = mine_variations::boundaries();
+    fine.retain(|v| v.refusal == FINE);
+    let mut made: Vec<Mine> = Vec::new();
+    for (name, m) in varied(mine_variations::base, &fine) {
         // Some values are those of the base.
-        if !fine.contains(&m) {
-            out.mine(&format!("Mine accepted: {}", v.name), &m, vec![Call::Move(BAD_COMMAND)]);
-            fine.push(m);
+        if !made.contains(&m) {
+            out.mine(&format!("Mine accepted: {name}"), &m, vec![Call::Move(BAD_COMMAND)]);
+            made.push(m);
         }
-    }
-}
-
-fn cutter_boundaries(out: &mut Corners) {
-    let pace = Pace::default();
-    let base = causes(cutter_variations::boundaries());
-    let mut drawing = causes(cutter_variations::drawing_variations());
-    drawing.retain(|v| base.iter().all(|known| known.name != v.name));
-    let on_base = varied(cutter_variations::base, &base);
-    for (name, c) in on_base.chain(varied(cutter_variations::drawing, &drawing)) {
-        out.cutter(&format!("Cutter refused: {name}"), &c, battery::cutter(&c, &pace, SMALL));
-    }
-    for (i, [one, two]) in pairs(&base).into_iter().enumerate() {
-        let mut c = Cutter { won_level: true, level: LAST_LEVEL, ..cutter_variations::base() };
-        one.apply(&mut c);
-        two.apply(&mut c);
-        let name = format!("Cutter order: {} and {}", one.name, two.name);
-        out.cutter(&name, &c, battery::cutter(&c, &pace, if i == 0 { PICTURE } else { SMALL }));
     }
 }
 

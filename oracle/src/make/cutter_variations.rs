@@ -1,7 +1,7 @@
 //! Cutter states with one thing changed.
 
 use super::variations::{FINE, Variation, Variations, off};
-use crate::check::{CELLS_BAD, CREATURES_BAD, LAST_LEVEL, NUMBERS_BAD, PLAYER_BAD};
+use crate::check::*;
 use crate::games::cutter;
 use crate::state::*;
 
@@ -49,7 +49,7 @@ pub fn boundaries() -> Vec<Variation<Cutter>> {
     let mut v = Variations(variations());
     v.each(CELLS_BAD, "black on the ring at", &[62, 2046], |c, cell| c.grid[cell] = BLACK);
     v.add(CELLS_BAD, "last inner cell", |c| c.grid[30 * CW + 62] = LINE + 1);
-    v.add(CREATURES_BAD, "first x a row on", |c| c.enemies[0].x = 65);
+    v.add(Refusal::at(OFF_GRID, 0), "first x a row on", |c| c.enemies[0].x = 65);
     v.0
 }
 
@@ -72,7 +72,7 @@ pub fn drawing_variations() -> Vec<Variation<Cutter>> {
         (c.px, c.py) = place;
     });
     v.add(FINE, "player back on the line", |c| c.py = 2);
-    v.add(CREATURES_BAD, "creature on line", |c| {
+    v.add(Refusal::at(WRONG_CELL, 0), "creature on line", |c| {
         (c.enemies[0].x, c.enemies[0].y) = (32, 3);
     });
     v.each(FINE, "direction", &[(0, 0), (0, -1), (-1, 0), (1, 0)], |c, d| (c.dx, c.dy) = d);
@@ -115,16 +115,20 @@ fn player(v: &mut Variations<Cutter>) {
 }
 
 fn creatures(v: &mut Variations<Cutter>) {
-    v.each(CREATURES_BAD, "first x", &[0, 63, 64, 74, 138, 255], |c, x| c.enemies[0].x = x);
-    v.each(CREATURES_BAD, "first y", &[0, 31, 32, 42, 138, 255], |c, y| c.enemies[0].y = y);
-    v.each(CREATURES_BAD, "last x", &[0, 63, 64, 255], |c, x| c.enemies[2].x = x);
+    let [first, last] = [0, 2].map(|i| [WRONG_CELL, OFF_GRID].map(|number| Refusal::at(number, i)));
+    v.each(first[0], "first x", &[0, 63], |c, x| c.enemies[0].x = x);
+    v.each(first[1], "first x", &[64, 74, 138, 255], |c, x| c.enemies[0].x = x);
+    v.each(first[0], "first y", &[0, 31], |c, y| c.enemies[0].y = y);
+    v.each(first[1], "first y", &[32, 42, 138, 255], |c, y| c.enemies[0].y = y);
+    v.each(last[0], "last x", &[0, 63], |c, x| c.enemies[2].x = x);
+    v.each(last[1], "last x", &[64, 255], |c, x| c.enemies[2].x = x);
     v.each(FINE, "last x", &[1, 62], |c, x| c.enemies[2].x = x);
     v.each(FINE, "last y", &[1, 30], |c, y| c.enemies[2].y = y);
-    v.add(CREATURES_BAD, "creature on claimed", |c| {
+    v.add(Refusal::at(WRONG_CELL, 1), "creature on claimed", |c| {
         (c.enemies[1].x, c.enemies[1].y) = (40, 10);
     });
-    v.each(CREATURES_BAD, "first vx", &NOT_UNIT, |c, vx| c.enemies[0].vx = vx);
-    v.each(CREATURES_BAD, "last vy", &NOT_UNIT, |c, vy| c.enemies[2].vy = vy);
+    v.each(Refusal::at(TURN_BAD, 0), "first vx", &NOT_UNIT, |c, vx| c.enemies[0].vx = vx);
+    v.each(Refusal::at(TURN_BAD, 2), "last vy", &NOT_UNIT, |c, vy| c.enemies[2].vy = vy);
     v.each(FINE, "velocity", &[(1, 1), (1, -1), (-1, 1)], |c, (vx, vy)| {
         (c.enemies[2].vx, c.enemies[2].vy) = (vx, vy);
     });
@@ -132,13 +136,13 @@ fn creatures(v: &mut Variations<Cutter>) {
 
 fn slots(v: &mut Variations<Cutter>) {
     let too_many = [MOVERS + 1, MOVERS + 2, (1 << 8) + 3, (1 << 32) + 3, usize::MAX];
-    v.each(CREATURES_BAD, "count", &too_many, |c, count| c.count = count);
-    v.each(CREATURES_BAD, "count less than the slots", &[0, 1, 2], |c, count| c.count = count);
-    v.add(CREATURES_BAD, "count takes a zero slot", |c| c.count = 4);
-    v.each(CREATURES_BAD, "x past the count", &[3, MOVERS - 1], |c, i| c.enemies[i].x = 1);
-    v.each(CREATURES_BAD, "y past the count", &[3, MOVERS - 1], |c, i| c.enemies[i].y = 255);
-    v.each(CREATURES_BAD, "vx past the count", &[3, MOVERS - 1], |c, i| c.enemies[i].vx = -1);
-    v.each(CREATURES_BAD, "vy past the count", &[3, MOVERS - 1], |c, i| c.enemies[i].vy = -128);
+    v.each(Refusal::at(TOO_MANY, 0), "count", &too_many, |c, count| c.count = count);
+    v.each_at(SLOT_USED, "count less than the slots", &[0, 1, 2], |c, count| c.count = count);
+    v.add(Refusal::at(WRONG_CELL, 3), "count takes a zero slot", |c| c.count = 4);
+    v.each_at(SLOT_USED, "x past the count", &[3, MOVERS - 1], |c, i| c.enemies[i].x = 1);
+    v.each_at(SLOT_USED, "y past the count", &[3, MOVERS - 1], |c, i| c.enemies[i].y = 255);
+    v.each_at(SLOT_USED, "vx past the count", &[3, MOVERS - 1], |c, i| c.enemies[i].vx = -1);
+    v.each_at(SLOT_USED, "vy past the count", &[3, MOVERS - 1], |c, i| c.enemies[i].vy = -128);
     v.add(FINE, "no creature", |c| {
         c.enemies = Default::default();
         c.count = 0;

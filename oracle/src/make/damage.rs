@@ -3,14 +3,17 @@
 use super::readings::{ENEMY, STEP};
 use super::sequences;
 use crate::calls::Call;
+use crate::games::mine;
 use crate::stand_ins::catcard_app::screen::FRAME;
-use crate::state::State;
+use crate::state::{Game, Pace, State};
 
-pub const PARTS: [&str; 7] = ["refusal", "answer", "state", "record", "result", "frame", "cost"];
+pub const PARTS: [&str; 9] =
+    ["refusal", "answer", "state", "record", "result", "frame", "cost", "place", "place-high"];
 
 const HEADER: usize = 12;
 const REFUSAL: usize = 1;
 const ANSWER: usize = 2;
+const PLACE: usize = 10;
 const RECORD: usize = 8;
 /// A pass's arguments: a reading and one key, in Cutter with their number; a picture's: a length.
 const PASS: usize = HEADER + 5;
@@ -35,6 +38,12 @@ pub fn damaged(part: &str) -> Option<(Vec<u8>, usize, usize)> {
         starts.push(trace.bytes.len());
         trace.call(call);
     }
+    let mut bad = mine::load();
+    bad.enemies[1].dir = 4;
+    starts.push(trace.bytes.len());
+    trace.set(State { game: Game::Mine(Box::new(bad)), pace: Pace::default() });
+    starts.push(trace.bytes.len());
+    trace.call(Call::Gravity);
     let (entry, byte) = match part {
         "refusal" => (1, REFUSAL),
         "answer" => (2, ANSWER),
@@ -43,6 +52,9 @@ pub fn damaged(part: &str) -> Option<(Vec<u8>, usize, usize)> {
         "result" => (6, HEADER),
         "frame" => (3, PICTURE + FRAME - 1),
         "cost" => (5, CUTTER_PASS + State::CUTTER_BYTES + WALKED),
+        "place" => (8, PLACE),
+        // Of a call that isn't refused.
+        "place-high" => (2, PLACE + 1),
         _ => return None,
     };
     let wrong = starts[entry] + byte;

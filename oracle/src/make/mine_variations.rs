@@ -1,7 +1,7 @@
 //! Mine states with one thing changed.
 
 use super::variations::{FINE, Variation, Variations, off};
-use crate::check::{CELLS_BAD, CREATURES_BAD, NUMBERS_BAD, PLAYER_BAD};
+use crate::check::*;
 use crate::state::*;
 
 const PLAYER: usize = 5 * W + 5;
@@ -77,23 +77,27 @@ fn player(v: &mut Variations<Mine>) {
 }
 
 fn creatures(v: &mut Variations<Mine>) {
-    v.each(CREATURES_BAD, "first x", &off(W, 7), |m, x| m.enemies[0].x = x);
-    v.each(CREATURES_BAD, "first y", &off(H, 7), |m, y| m.enemies[0].y = y);
-    v.each(CREATURES_BAD, "last x", &off(W, 11), |m, x| m.enemies[2].x = x);
-    v.each(CREATURES_BAD, "last y", &off(H, 3), |m, y| m.enemies[2].y = y);
-    v.each(CREATURES_BAD, "last dir", &[4, 5, 128, 255], |m, dir| m.enemies[2].dir = dir);
+    v.each(Refusal::at(OFF_GRID, 0), "first x", &off(W, 7), |m, x| m.enemies[0].x = x);
+    v.each(Refusal::at(OFF_GRID, 0), "first y", &off(H, 7), |m, y| m.enemies[0].y = y);
+    v.each(Refusal::at(OFF_GRID, 2), "last x", &off(W, 11), |m, x| m.enemies[2].x = x);
+    v.each(Refusal::at(OFF_GRID, 2), "last y", &off(H, 3), |m, y| m.enemies[2].y = y);
+    v.each(Refusal::at(TURN_BAD, 2), "last dir", &[4, 5, 128, 255], |m, dir| {
+        m.enemies[2].dir = dir
+    });
     v.each(FINE, "last dir", &[UP, RIGHT, DOWN, LEFT], |m, dir| m.enemies[2].dir = dir);
     v.each(FINE, "last x", &[0, W - 1], |m, x| m.enemies[2].x = x);
     v.each(FINE, "last y", &[0, H - 1], |m, y| m.enemies[2].y = y);
-    v.each(CREATURES_BAD, "creature on", &NOT_EMPTY, |m, code| m.grid[3 * W + 11] = code);
+    v.each(Refusal::at(WRONG_CELL, 2), "creature on", &NOT_EMPTY, |m, code| {
+        m.grid[3 * W + 11] = code
+    });
     for pair in [(0, 1), (0, 2), (1, 2)] {
         let cause = format!("one cell shared by {pair:?}");
-        v.add(CREATURES_BAD, &cause, move |m| {
+        v.add(Refusal::at(SHARED, pair.1), &cause, move |m| {
             (m.enemies[pair.1].x, m.enemies[pair.1].y) = (m.enemies[pair.0].x, m.enemies[pair.0].y);
         });
     }
     v.add(FINE, "one on the player", |m| at_player(m, 1));
-    v.add(CREATURES_BAD, "two on the player", |m| {
+    v.add(Refusal::at(SHARED, 2), "two on the player", |m| {
         at_player(m, 0);
         at_player(m, 2);
     });
@@ -105,16 +109,21 @@ fn at_player(m: &mut Mine, i: usize) {
 
 fn slots(v: &mut Variations<Mine>) {
     let too_many = [ENEMIES + 1, ENEMIES + 2, (1 << 8) + 3, (1 << 32) + 3, usize::MAX];
-    v.each(CREATURES_BAD, "count", &too_many, |m, count| m.count = count);
-    v.each(CREATURES_BAD, "count less than the slots", &[0, 1, 2], |m, count| m.count = count);
+    v.each(Refusal::at(TOO_MANY, 0), "count", &too_many, |m, count| m.count = count);
+    v.each_at(SLOT_USED, "count less than the slots", &[0, 1, 2], |m, count| m.count = count);
     v.add(FINE, "count takes a zero slot, at (0,0)", |m| m.count = 4);
-    v.add(CREATURES_BAD, "count takes two zero slots", |m| m.count = 5);
-    v.each(CREATURES_BAD, "x past the count", &[3, ENEMIES - 1], |m, i| m.enemies[i].x = 1);
-    v.each(CREATURES_BAD, "y past the count", &[3, ENEMIES - 1], |m, i| m.enemies[i].y = 1);
-    v.each(CREATURES_BAD, "dir past the count", &[3, ENEMIES - 1], |m, i| m.enemies[i].dir = 1);
-    v.each(CREATURES_BAD, "wide past the count", &[1 << 8, 1 << 32, 1 << 63], |m, x| {
-        m.enemies[ENEMIES - 1].x = x;
-    });
+    v.add(Refusal::at(SHARED, 4), "count takes two zero slots", |m| m.count = 5);
+    v.each_at(SLOT_USED, "x past the count", &[3, ENEMIES - 1], |m, i| m.enemies[i].x = 1);
+    v.each_at(SLOT_USED, "y past the count", &[3, ENEMIES - 1], |m, i| m.enemies[i].y = 1);
+    v.each_at(SLOT_USED, "dir past the count", &[3, ENEMIES - 1], |m, i| m.enemies[i].dir = 1);
+    v.each(
+        Refusal::at(SLOT_USED, ENEMIES - 1),
+        "wide past the count",
+        &[1 << 8, 1 << 32, 1 << 63],
+        |m, x| {
+            m.enemies[ENEMIES - 1].x = x;
+        },
+    );
     v.add(FINE, "no creature", |m| {
         m.enemies = Default::default();
         m.count = 0;

@@ -1,10 +1,10 @@
 //! One thing changed in a well-formed state, with the refusal it earns: every field at its
 //! boundaries, on both sides of them.
 
-use crate::check::Refusal;
+use crate::check::{NONE, Refusal};
 
 /// The refusal of a change that leaves the state well formed.
-pub const FINE: Refusal = 0;
+pub const FINE: Refusal = NONE;
 
 pub struct Variation<S> {
     /// What is changed.
@@ -40,6 +40,19 @@ impl<S: 'static> Variations<S> {
         for &value in values {
             let name = format!("{cause} {value:?}");
             self.named(refusal, cause, &name, move |s| change(s, value));
+        }
+    }
+
+    /// The same where each value is the refusal's place.
+    pub fn each_at(
+        &mut self,
+        number: u8,
+        cause: &str,
+        places: &[usize],
+        change: fn(&mut S, usize),
+    ) {
+        for &at in places {
+            self.each(Refusal::at(number, at), cause, &[at], change);
         }
     }
 
