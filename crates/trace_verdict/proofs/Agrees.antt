@@ -7,12 +7,13 @@ use native.Mathlib.Omega.{arith}
 use borrow.Author.Tests.{eqb-true}
 use lib.Dec.{eqb, ltb}
 use lib.ListN.{length}
+use Rattle.refusal.specs.declared.Refusal as R
 use Rattle.trace_verdict.specs.declared.Difference.{Difference}
 use Rattle.trace_verdict.specs.declared.Difference.the-variants.{From, Nowhere}
 use Rattle.trace_verdict.specs.declared.Head.{Head}
 use Rattle.trace_verdict.specs.declared.Part.{Part}
-use Rattle.trace_verdict.specs.declared.Part.the-variants.{Same, Refusal, Answer, State, Record, Result}
-use Rattle.trace_verdict.specs.Compare.{RECORD, differFrom, firstDifference, placed, theirs, rewritten, differingOr, compared, Agrees}
+use Rattle.trace_verdict.specs.declared.Part.the-variants.{Same, Refusal, Place, Answer, State, Record, Result}
+use Rattle.trace_verdict.specs.Compare.{RECORD, differFrom, firstDifference, placed, theirs, rewritten, differingOr, placeTold, compared, Agrees}
 
 -- runs without a difference are the same
 same-heads : (t : Bool) (k : ℕ) {x y : ℕ} {a b : List ℕ} {d : Difference} → eqb x y ≡ t → cond t d (From k) ≡ Nowhere → (d ≡ Nowhere → a ≡ b) → x ∷ a ≡ y ∷ b
@@ -45,6 +46,9 @@ no-difference Nowhere n e = (refl, e)
 no-refusal : Refusal ≡ Same → ⊥
 no-refusal e = let z : _≡_ {A = ℕ} 0 1 = cc in omega arith
 
+no-place-told : Place ≡ Same → ⊥
+no-place-told e = let z : _≡_ {A = ℕ} 0 1 = cc in omega arith
+
 no-answer : Answer ≡ Same → ⊥
 no-answer e = let z : _≡_ {A = ℕ} 0 1 = cc in omega arith
 
@@ -66,16 +70,18 @@ unfolding placed
 no-placed n i e = no-place (ltb i (n - RECORD)) i (i - (n - RECORD)) e
 
 -- an entry that is found the same agrees in every part
-pub agrees : (h : Head) (current state result : List ℕ) (refusal answer : ℕ) (ours told : List ℕ) → compared h current state result refusal answer ours told ≡ Same
+pub agrees : (h : Head) (current state result : List ℕ) (refusal : R.Refusal) (answer : ℕ) (ours told : List ℕ) → compared h current state result refusal answer ours told ≡ Same
     → Agrees h current state result refusal answer ours told
 unfolding compared
 agrees h current state result refusal answer ours told e =
-    let a : (eqb (h .refusal) refusal ≡ true) × _ = chosen (eqb (h .refusal) refusal) no-refusal e in
-    let b : (eqb (h .answer) answer ≡ true) × _ = chosen (eqb (h .answer) answer) no-answer (a .1) in
+    let a : (eqb (h .refusal) (refusal .number) ≡ true) × _ = chosen (eqb (h .refusal) (refusal .number)) no-refusal e in
+    let p : (eqb (h .place) (placeTold (refusal .at)) ≡ true) × _ = chosen (eqb (h .place) (placeTold (refusal .at))) no-place-told (a .1) in
+    let b : (eqb (h .answer) answer ≡ true) × _ = chosen (eqb (h .answer) answer) no-answer (p .1) in
     let c : (firstDifference (theirs current state) ours ≡ Nowhere) × _ = no-difference (firstDifference (theirs current state) ours) (no-placed (length ours)) (b .1) in
     let d : (firstDifference result told ≡ Nowhere) × _ = no-difference (firstDifference result told) no-result (passed (rewritten current state) (no-state 0) (c .1)) in
     record {
-      refusals = eqb-true (h .refusal) refusal (a .0);
+      refusals = eqb-true (h .refusal) (refusal .number) (a .0);
+      places = eqb-true (h .place) (placeTold (refusal .at)) (p .0);
       answers = eqb-true (h .answer) answer (b .0);
       states = same-runs (theirs current state) ours (c .0);
       results = same-runs result told (d .0);

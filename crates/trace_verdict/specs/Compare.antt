@@ -5,11 +5,12 @@ use mathlib.Core.Path.{_≡_}
 use Prim.Native.Nat.{ℕ, _+_, _-_}
 use lib.Dec.{eqb, ltb}
 use lib.ListN.{length}
+use Rattle.refusal.specs.declared.Refusal as R
 use Rattle.trace_verdict.specs.declared.Difference.{Difference}
 use Rattle.trace_verdict.specs.declared.Difference.the-variants.{From, Nowhere}
 use Rattle.trace_verdict.specs.declared.Head.{Head}
 use Rattle.trace_verdict.specs.declared.Part.{Part}
-use Rattle.trace_verdict.specs.declared.Part.the-variants.{Same, Refusal, Answer, State, Record, Result}
+use Rattle.trace_verdict.specs.declared.Part.the-variants.{Same, Refusal, Place, Answer, State, Record, Result}
 
 -- the two clock marks at the end of a state
 abbrev pub RECORD : ℕ
@@ -47,20 +48,30 @@ abbrev pub differingOr : Difference → (ℕ → Part) → Part → Part
 differingOr (From i) f p = f i
 differingOr Nowhere f p = p
 
--- an entry over the current state: its refusal, answer, state, record and result against those of the call, in this order
-unfoldable pub compared : Head → (current state result : List ℕ) → (refusal answer : ℕ) → (ours told : List ℕ) → Part
+-- a refusal's place, as an entry tells it: one from 65,535 on is told as 65,535
+abbrev pub FAR : ℕ
+FAR = 65535
+
+unfoldable pub placeTold : ℕ → ℕ
+placeTold at = cond (ltb at FAR) at FAR
+
+-- an entry over the current state: its refusal, place, answer, state, record and result against those of the call, in this order
+unfoldable pub compared : Head → (current state result : List ℕ) → (refusal : R.Refusal) → (answer : ℕ) → (ours told : List ℕ) → Part
 compared h current state result refusal answer ours told =
-    cond (eqb (h .refusal) refusal)
+    cond (eqb (h .refusal) (refusal .number))
+    (cond (eqb (h .place) (placeTold (refusal .at)))
     (cond (eqb (h .answer) answer)
     (differingOr (firstDifference (theirs current state) ours) (placed (length ours))
     (cond (rewritten current state) (State 0)
     (differingOr (firstDifference result told) Result Same)))
     Answer)
+    Place)
     Refusal
 
 -- every part of an entry is the call's
-pub record Agrees (h : Head) (current state result : List ℕ) (refusal answer : ℕ) (ours told : List ℕ) : Type 0 where
-  pub refusals : h .refusal ≡ refusal
+pub record Agrees (h : Head) (current state result : List ℕ) (refusal : R.Refusal) (answer : ℕ) (ours told : List ℕ) : Type 0 where
+  pub refusals : h .refusal ≡ refusal .number
+  pub places : h .place ≡ placeTold (refusal .at)
   pub answers : h .answer ≡ answer
   pub states : theirs current state ≡ ours
   pub results : result ≡ told

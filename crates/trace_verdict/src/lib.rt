@@ -1,7 +1,8 @@
 // What an entry tells, against what its call gave.
+use refusal::Refusal;
 ghost use Prim.Native.Nat.{_-_};
 ghost use mathlib.Core.Path.{_≡_};
-ghost use Rattle.trace_verdict.specs.Compare.{firstDifference, RECORD, placed, theirs, rewritten, compared};
+ghost use Rattle.trace_verdict.specs.Compare.{firstDifference, RECORD, placed, theirs, rewritten, placeTold, compared};
 
 // The part of an entry that differs, with its first byte where it has several. Unread is an entry
 // that can't be read.
@@ -9,6 +10,7 @@ pub enum Part {
     Same,
     Unread,
     Refusal,
+    Place,
     Answer,
     State(usize),
     Record(usize),
@@ -19,6 +21,7 @@ pub enum Part {
 pub struct Head {
     pub call: u8,
     pub refusal: u8,
+    pub place: usize,
     pub answer: u8,
 }
 
@@ -95,11 +98,23 @@ fn is_rewritten(current: &[u8], state: &[u8]) -> bool
     true
 }
 
-// The whole of an entry against what its call gave: the refusal, the answer, the state with its
-// record, and what it told.
+// A place from this one on is told as this one.
+pub const FAR: usize = 65535;
+
+fn place_told(at: usize) -> usize
+    ensures { λ r. ⌜ r ≡ placeTold at ⌝ }
+{
+    if at < FAR {
+        return at;
+    }
+    FAR
+}
+
+// The whole of an entry against what its call gave: the refusal and its place, the answer, the
+// state with its record, and what it told.
 pub fn compared_with(
     h: Head,
-    refusal: u8,
+    refusal: Refusal,
     answer: u8,
     ours: &[u8],
     current: &[u8],
@@ -109,8 +124,11 @@ pub fn compared_with(
 ) -> Part
     ensures { λ r. ⌜ r ≡ compared h (now (current .entry)) (now (state .entry)) (now (result .entry)) refusal answer (now (ours .entry)) (now (told .entry)) ⌝ }
 {
-    if h.refusal != refusal {
+    if h.refusal != refusal.number {
         return Part::Refusal;
+    }
+    if h.place != place_told(refusal.at) {
+        return Part::Place;
     }
     if h.answer != answer {
         return Part::Answer;
