@@ -5,6 +5,7 @@ use Prim.Native.Nat.{ℕ, _+_}
 use lib.Dec.{eqb}
 use lib.ListN.{take, drop}
 use Rattle.answer.specs.Answer.{numberOf}
+use Rattle.refusal.specs.Refusal.{NONE}
 use Rattle.pace.specs.declared.Pace.{Pace}
 use Rattle.pace.specs.Pace.{started}
 use Rattle.cutter_state.specs.declared.Cutter.{Cutter}
@@ -82,7 +83,7 @@ module _ (h : Head) (args current state result : List ℕ) where
 
   -- 32: reading, 4 bytes
   unfoldable pub cutterStarted : Cutter → Part
-  cutterStarted c = exactly MARK args (cutterTold h current state result 0 0 c (started (wordAt MARK 0 args)))
+  cutterStarted c = exactly MARK args (cutterTold h current state result NONE 0 c (started (wordAt MARK 0 args)))
 
   -- call n on a state of Cutter
   unfoldable pub cutterCall : ℕ → Cutter → Pace → Part

@@ -4,7 +4,7 @@ use mathlib.Core.List.{List, []}
 use Prim.Native.Nat.{ℕ}
 use lib.Dec.{eqb}
 use lib.ListN.{drop}
-use Rattle.refusal.specs.Refusal.{NONE}
+use Rattle.refusal.specs.Refusal.{NONE, clear}
 use Rattle.frame.specs.Frame.{pageOf}
 use Rattle.pace.specs.declared.Pace.{Pace}
 use Rattle.mine_rules.specs.Load.{loaded}
@@ -20,18 +20,18 @@ use Rattle.trace_calls.specs.Shared.{exactly, atLeast, stays, mineTold, 
 module _ (h : Head) (args current state result : List ℕ) where
   -- 1: Mine's load; the record is kept
   unfoldable pub mineLoaded : Pace → Part
-  mineLoaded p = exactly 0 args (mineTold h current state result 0 0 loaded p)
+  mineLoaded p = exactly 0 args (mineTold h current state result NONE 0 loaded p)
 
   -- 17: a new round by its draws; the record is kept, and where it is refused the state too
   abbrev pub begun : Pace → CutterAnswer → Part
-  begun p a = cond (eqb (a .refusal) NONE) (cutterTold h current state result 0 0 (a .game) p) (stays h current state result (a .refusal) [])
+  begun p a = cond (clear (a .refusal)) (cutterTold h current state result NONE 0 (a .game) p) (stays h current state result (a .refusal) [])
 
   unfoldable pub roundBegun : Pace → Part
   roundBegun p = begun p (roundCall args)
 
   -- 33: page, its number, 8 bytes; then the frame
   unfoldable pub pageTold : Part
-  pageTold = atLeast PLACE args (stays h current state result 0 (pageOf (drop PLACE args) (wordAt PLACE 0 args)))
+  pageTold = atLeast PLACE args (stays h current state result NONE (pageOf (drop PLACE args) (wordAt PLACE 0 args)))
 
   -- call n, of those that either state allows
   unfoldable pub eitherCall : ℕ → Pace → Part

@@ -5,6 +5,7 @@ use Prim.Native.Nat.{ℕ}
 use lib.Dec.{eqb}
 use lib.ListN.{drop}
 use Rattle.answer.specs.Answer.{numberOf}
+use Rattle.refusal.specs.Refusal.{NONE}
 use Rattle.pace.specs.declared.Pace.{Pace}
 use Rattle.pace.specs.Pace.{started}
 use Rattle.mine_state.specs.declared.Mine.{Mine}
@@ -48,7 +49,7 @@ module _ (h : Head) (args current state result : List ℕ) where
 
   -- 32: reading, 4 bytes
   unfoldable pub mineStarted : Mine → Part
-  mineStarted m = exactly MARK args (mineTold h current state result 0 0 m (started (wordAt MARK 0 args)))
+  mineStarted m = exactly MARK args (mineTold h current state result NONE 0 m (started (wordAt MARK 0 args)))
 
   -- call n on a state of Mine
   unfoldable pub mineCall : ℕ → Mine → Pace → Part

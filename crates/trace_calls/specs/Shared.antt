@@ -4,6 +4,7 @@ use mathlib.Core.List.{List, []}
 use Prim.Native.Nat.{ℕ, _-_}
 use lib.Dec.{eqb, ltb}
 use lib.ListN.{length, replicate}
+use Rattle.refusal.specs.declared.Refusal.{Refusal}
 use Rattle.mine_state.specs.declared.Mine.{Mine}
 use Rattle.cutter_state.specs.declared.Cutter.{Cutter}
 use Rattle.pace.specs.declared.Pace.{Pace}
@@ -35,22 +36,22 @@ atLeast n args p = cond (ltb (length args) n) Unread p
 
 module _ (h : Head) (current state result : List ℕ) where
   -- a call that leaves state and record, and tells something
-  abbrev pub stays : ℕ → List ℕ → Part
+  abbrev pub stays : Refusal → List ℕ → Part
   stays refusal told = compared h current state result refusal 0 current told
 
   -- a call that gives a state and a record, and tells nothing
-  abbrev pub mineTold : ℕ → ℕ → Mine → Pace → Part
+  abbrev pub mineTold : Refusal → ℕ → Mine → Pace → Part
   mineTold refusal answer m p = compared h current state result refusal answer (mineBytes m (p .first) (p .second)) []
 
-  abbrev pub cutterTold : ℕ → ℕ → Cutter → Pace → Part
+  abbrev pub cutterTold : Refusal → ℕ → Cutter → Pace → Part
   cutterTold refusal answer c p = compared h current state result refusal answer (cutterBytes c (p .first) (p .second)) []
 
   -- one that tells the cells which a search and a walk took, 2 bytes each
-  abbrev pub cutterMade : ℕ → ℕ → Cutter → Pace → ℕ → ℕ → Part
+  abbrev pub cutterMade : Refusal → ℕ → Cutter → Pace → ℕ → ℕ → Part
   cutterMade refusal answer c p searched walked = compared h current state result refusal answer (cutterBytes c (p .first) (p .second)) (pairIn 2 searched walked)
 
-  -- a picture: the refusal number, and the frame after
-  abbrev pub showed : ℕ × List ℕ → Part
+  -- a picture: the refusal, and the frame after
+  abbrev pub showed : Refusal × List ℕ → Part
   showed f = stays (f .0) (f .1)
 
 -- the frame of n bytes before its picture

@@ -275,7 +275,7 @@ fn started(h: Head, c: Cutter, args: &[u8], current: &[u8], state: &[u8], result
         return Part::Unread;
     }
     let p = pace::start(word(args, 0, MARK) as u32);
-    cutter_told(h, NONE, NONE, c, p, current, state, result)
+    cutter_told(h, refusal::NONE, NONE, c, p, current, state, result)
 }
 
 pub fn on_cutter(h: Head, args: &[u8], current: &[u8], state: &[u8], result: &[u8]) -> Part

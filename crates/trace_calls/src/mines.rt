@@ -155,7 +155,7 @@ fn started(h: Head, m: Mine, args: &[u8], current: &[u8], state: &[u8], result: 
         return Part::Unread;
     }
     let p = pace::start(word(args, 0, MARK) as u32);
-    mine_told(h, NONE, NONE, m, p, current, state, result)
+    mine_told(h, refusal::NONE, NONE, m, p, current, state, result)
 }
 
 pub fn on_mine(h: Head, args: &[u8], current: &[u8], state: &[u8], result: &[u8]) -> Part

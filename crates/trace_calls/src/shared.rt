@@ -2,6 +2,7 @@
 use cutter_state::Cutter;
 use mine_state::Mine;
 use pace::Pace;
+use refusal::Refusal;
 use trace_questions::NONE;
 use trace_questions::mine_asked;
 use trace_questions::mover_asked;
@@ -64,7 +65,7 @@ pub fn marks_of(current: &[u8]) -> Pace
 // What a call without a result gave.
 pub fn mine_told(
     h: Head,
-    refusal: u8,
+    refusal: Refusal,
     answer: u8,
     m: Mine,
     p: Pace,
@@ -82,7 +83,7 @@ pub fn mine_told(
 // What a call without a result gave.
 pub fn cutter_told(
     h: Head,
-    refusal: u8,
+    refusal: Refusal,
     answer: u8,
     c: Cutter,
     p: Pace,
@@ -103,7 +104,7 @@ const TAKEN: usize = 4;
 // What a call gave that tells how many cells a search and a walk took.
 pub fn cutter_made(
     h: Head,
-    refusal: u8,
+    refusal: Refusal,
     answer: u8,
     c: Cutter,
     p: Pace,
@@ -128,7 +129,16 @@ fn load(h: Head, p: Pace, args: &[u8], current: &[u8], state: &[u8], result: &[u
     if args.len() != 0 {
         return Part::Unread;
     }
-    mine_told(h, NONE, NONE, mine::load(), p, current, state, result)
+    mine_told(
+        h,
+        refusal::NONE,
+        NONE,
+        mine::load(),
+        p,
+        current,
+        state,
+        result,
+    )
 }
 
 // A refused new round leaves the current state.
@@ -136,10 +146,11 @@ fn new_round(h: Head, p: Pace, draws: &[u8], current: &[u8], state: &[u8], resul
     ensures { λ r. ⌜ r ≡ roundBegun h (now (draws .entry)) (now (current .entry)) (now (state .entry)) (now (result .entry)) p ⌝ }
 {
     let a = cutter::new_round(draws);
-    if a.refusal != refusal::NONE {
-        return compared_with(h, a.refusal, NONE, current, current, state, b"", result);
+    let no = a.refusal;
+    if no.number != refusal::NONE.number {
+        return compared_with(h, no, NONE, current, current, state, b"", result);
     }
-    cutter_told(h, NONE, NONE, a.game, p, current, state, result)
+    cutter_told(h, refusal::NONE, NONE, a.game, p, current, state, result)
 }
 
 fn page(h: Head, args: &[u8], current: &[u8], state: &[u8], result: &[u8]) -> Part
@@ -150,7 +161,16 @@ fn page(h: Head, args: &[u8], current: &[u8], state: &[u8], result: &[u8]) -> Pa
     }
     let number = word(args, 0, PLACE) as usize;
     let told = frame::page(&args[PLACE..], number);
-    compared_with(h, NONE, NONE, current, current, state, told, result)
+    compared_with(
+        h,
+        refusal::NONE,
+        NONE,
+        current,
+        current,
+        state,
+        told,
+        result,
+    )
 }
 
 pub fn on_either(h: Head, p: Pace, args: &[u8], current: &[u8], state: &[u8], result: &[u8]) -> Part

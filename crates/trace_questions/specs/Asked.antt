@@ -4,6 +4,7 @@ use mathlib.Core.List.{List, []}
 use Prim.Native.Nat.{ℕ, _+_, _^_, _<_, _%_}
 use lib.Dec.{eqb, ltb}
 use lib.ListN.{length, drop}
+use Rattle.refusal.specs.Refusal.{NONE}
 use Rattle.found.specs.First.{index, number}
 use Rattle.found.specs.declared.Found.{Found}
 use Rattle.found.specs.declared.Found.the-variants.{At, Nobody}
@@ -35,7 +36,7 @@ foundBytes (At i n) = pairIn PLACE i n
 foundBytes Nobody = []
 
 unfoldable pub foundTold : Head → (current state result : List ℕ) → Found → Part
-foundTold h current state result f = compared h current state result 0 0 current (foundBytes f)
+foundTold h current state result f = compared h current state result NONE 0 current (foundBytes f)
 
 abbrev pub BEFORE-LIST : ℕ
 BEFORE-LIST = 16

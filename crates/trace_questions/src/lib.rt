@@ -20,7 +20,7 @@ ghost use Rattle.cutter.specs.Question as Cutter;
 ghost use Rattle.trace_questions.specs.Lists.{InList, enemyOr, enemiesFrom, enemiesIn, moverOr, moversFrom, moversIn};
 ghost use Rattle.trace_questions.specs.Asked.{bothFound, Fits, foundTold, mineAsked, moverAsked};
 
-// A refusal and an answer that tell nothing.
+// A refusal's number and an answer that tell nothing.
 pub const NONE: u8 = 0;
 
 // The place that is asked for, which stands before the list.
@@ -39,11 +39,20 @@ fn told(h: Head, f: Found, current: &[u8], state: &[u8], result: &[u8]) -> Part
     ensures { λ r. ⌜ r ≡ foundTold h (now (current .entry)) (now (state .entry)) (now (result .entry)) f ⌝ }
 {
     let Found::At(i, n) = f else {
-        return compared_with(h, NONE, NONE, current, current, state, b"", result);
+        return compared_with(h, refusal::NONE, NONE, current, current, state, b"", result);
     };
     let mut bytes = [0u8; ANSWER];
     put_pair(i as u64, n as u64, PLACE, &mut bytes, 0);
-    compared_with(h, NONE, NONE, current, current, state, &bytes, result)
+    compared_with(
+        h,
+        refusal::NONE,
+        NONE,
+        current,
+        current,
+        state,
+        &bytes,
+        result,
+    )
 }
 
 // Creature k of a list of n, and an empty slot past them.

@@ -2,6 +2,7 @@
 use borrow.Author.Needs.{needs}
 use mathlib.Core.Path.{ap, _∙_}
 use borrow.Author.Tests.{eq-eqb, ne-eqb}
+use Rattle.refusal.specs.Refusal.{NONE}
 use Rattle.pace.specs.Pace as Pace
 use Rattle.trace_calls.specs.Shared.{exactly, mineTold}
 use Rattle.trace_calls.specs.Mines.{mineStarted}
@@ -19,7 +20,7 @@ returns-2 c =
     let k2 = k1 .before .before .before .before .before in
     let a = k2 .args in
     rw (eq-eqb _ _ (k1 .«if1» .left))
-    (c .«mine-told» .ensures ∙ ap (mineTold (a .h) (a .current .now) (a .state .now) (a .result .now) 0 0 (a .m))
+    (c .«mine-told» .ensures ∙ ap (mineTold (a .h) (a .current .now) (a .state .now) (a .result .now) NONE 0 (a .m))
     (c .before .«start» .ensures ∙ ap Pace.started (c .before .before .«word» .ensures .is)))
 
 pub started-spec : {M : Type 1} → statement M

@@ -2,6 +2,7 @@
 use borrow.Author.Needs.{needs}
 use mathlib.Core.Path.{ap, _∙_}
 use borrow.Author.Tests.{eq-eqb, ne-eqb}
+use Rattle.refusal.specs.Refusal.{NONE}
 use Rattle.mine_state.specs.declared.Mine.{Mine}
 use Rattle.trace_calls.specs.Shared.{exactly, mineTold}
 use Rattle.trace_calls.specs.Either.{mineLoaded}
@@ -16,7 +17,7 @@ returns-2 : tie.Need-returns-2
 unfolding mineLoaded exactly
 returns-2 c =
     let a = c .before .before .before .before .before .before .before .args in
-    rw (eq-eqb _ _ (c .before .before .«if1» .left)) (c .«mine-told» .ensures ∙ ap (λ (m : Mine). mineTold (a .h) (a .current .now) (a .state .now) (a .result .now) 0 0 m
+    rw (eq-eqb _ _ (c .before .before .«if1» .left)) (c .«mine-told» .ensures ∙ ap (λ (m : Mine). mineTold (a .h) (a .current .now) (a .state .now) (a .result .now) NONE 0 m
     (a .p)) (c .before .«load» .ensures))
 
 pub load-spec : {M : Type 1} → statement M

@@ -9,7 +9,7 @@ use Rattle.trace_calls.proofs.shared.new_round.Tie as tie
 returns : tie.Need-returns
 unfolding roundBegun
 returns c =
-    let k1 = c .before .before .before .before in
+    let k1 = c .before .before .before .before .before .before in
     let k2 = k1 .before .before .before .before .before in
     let a = k2 .args in
     let n = k1 .«new-round» in
@@ -21,8 +21,10 @@ returns c =
 returns-2 : tie.Need-returns-2
 unfolding roundBegun
 returns-2 c =
-    let a = c .before .before .before .before .before .before .before .before .args in
-    let n = c .before .before .before .«new-round» in
+    let k1 = c .before .before .before .before .before in
+    let k2 = k1 .before .before .before .before .before in
+    let a = k2 .args in
+    let n = k1 .«new-round» in
     let e : c .«cutter-told» .result
     ≡ begun (a .h) (a .draws .now) (a .current .now) (a .state .now) (a .result .now) (a .p) (n .result) = rw (eq-eqb _ _ (c .before .«if1» .left))
     (c .«cutter-told» .ensures) in

@@ -5,6 +5,7 @@ use borrow.Author.Tests.{lt-ltb, le-ltb}
 use mathlib.Core.List.{List}
 use Prim.Native.Nat.{ℕ}
 use lib.ListN.{drop}
+use Rattle.refusal.specs.Refusal.{NONE}
 use Rattle.frame.specs.Frame.{pageOf}
 use Rattle.trace_words.specs.Numbers.{PLACE}
 use Rattle.trace_questions.proofs.Parts.{rest-is}
@@ -29,7 +30,7 @@ returns-2 c =
     let g = c .before .«page» in
     let part = subst (λ (x : List ℕ). g .result .now ≡ pageOf x (w .result)) (rest-is PLACE l) (g .ensures) in
     rw (le-ltb _ _ (k2 .«if1» .left))
-    (c .«compared-with» .ensures ∙ ap (stays (a .h) (a .current .now) (a .state .now) (a .result .now) 0) (part ∙ ap (pageOf (drop PLACE l)) (w .ensures .is)))
+    (c .«compared-with» .ensures ∙ ap (stays (a .h) (a .current .now) (a .state .now) (a .result .now) NONE) (part ∙ ap (pageOf (drop PLACE l)) (w .ensures .is)))
 
 pub page-spec : {M : Type 1} → statement M
 page-spec =
