@@ -8,7 +8,7 @@ use lib.ListN.{length}
 use Rattle.laws.specs.Lists.{bit, count}
 use Rattle.laws.proofs.Counts.{count-append}
 use Rattle.trace_verdict.specs.declared.Part.{Part}
-use Rattle.trace_verdict.specs.declared.Part.the-variants.{Same, Unread, Refusal, Answer, State, Record, Result}
+use Rattle.trace_verdict.specs.declared.Part.the-variants.{Same, Unread, Refusal, Place, Answer, State, Record, Result}
 use Rattle.trace_reading.specs.declared.reading.Run.{Run}
 use Rattle.trace_reading.specs.Run.{isSame, isUnread, wrapped, afterOf}
 use Rattle.trace_reading.specs.Told.{Entry, verdict, makesCall, differs, unread, afterEntry, runOver, begun, Counted}
@@ -38,6 +38,7 @@ not-same : (p : Part) → bit (isUnread p) ≤ bit (not (isSame p))
 not-same Same = omega arith
 not-same Unread = omega arith
 not-same Refusal = omega arith
+not-same Place = omega arith
 not-same Answer = omega arith
 not-same (State i) = omega arith
 not-same (Record i) = omega arith

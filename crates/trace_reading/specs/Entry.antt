@@ -20,7 +20,7 @@ module _ (h : Head) (args current state result : List ℕ) where
 
   -- 0: the current state becomes the one given, and nothing else is told
   unfoldable pub setTo : Part
-  setTo = cond ((eqb (h .refusal) 0 && eqb (h .answer) 0) && ((eqb (length args) 0 && eqb (length result) 0) && isState (length state))) Same Unread
+  setTo = cond (((eqb (h .refusal) 0 && eqb (h .place) 0) && eqb (h .answer) 0) && ((eqb (length args) 0 && eqb (length result) 0) && isState (length state))) Same Unread
 
   -- an entry on the current state, whose length says which game it is of
   unfoldable pub judged : Part

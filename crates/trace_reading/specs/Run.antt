@@ -5,9 +5,10 @@ use Prim.Native.Nat.{ℕ, _+_, _-_, _%_}
 use lib.Dec.{eqb}
 use lib.ListN.{getD, take, drop}
 use Rattle.laws.specs.Lists.{bit}
+use Rattle.trace_words.specs.Numbers.{wordAt}
 use Rattle.trace_verdict.specs.declared.Head.{Head}
 use Rattle.trace_verdict.specs.declared.Part.{Part}
-use Rattle.trace_verdict.specs.declared.Part.the-variants.{Same, Unread, Refusal, Answer, State, Record, Result}
+use Rattle.trace_verdict.specs.declared.Part.the-variants.{Same, Unread, Refusal, Place, Answer, State, Record, Result}
 use Rattle.trace_reading.specs.declared.reading.Shape.{Shape}
 use Rattle.trace_reading.specs.declared.reading.Run.{Run}
 use Rattle.trace_reading.specs.Entry.{judged}
@@ -16,9 +17,9 @@ use Rattle.trace_reading.specs.Entry.{judged}
 abbrev pub HEADER : ℕ
 HEADER = 12
 
--- what a header tells: call, refusal and answer, in its first bytes
+-- what a header tells: call, refusal and answer, in its first bytes, and the refusal's place, in its last two
 abbrev pub headOf : List ℕ → Head
-headOf l = record { call = getD l 0 0; refusal = getD l 1 0; answer = getD l 2 0 }
+headOf l = record { call = getD l 0 0; refusal = getD l 1 0; place = wordAt 2 10 l; answer = getD l 2 0 }
 
 -- the bytes from a up to b
 abbrev pub between : ℕ → ℕ → List ℕ → List ℕ
@@ -36,6 +37,7 @@ abbrev pub isSame : Part → Bool
 isSame Same = true
 isSame Unread = false
 isSame Refusal = false
+isSame Place = false
 isSame Answer = false
 isSame (State i) = false
 isSame (Record i) = false
@@ -45,6 +47,7 @@ abbrev pub isUnread : Part → Bool
 isUnread Same = false
 isUnread Unread = true
 isUnread Refusal = false
+isUnread Place = false
 isUnread Answer = false
 isUnread (State i) = false
 isUnread (Record i) = false

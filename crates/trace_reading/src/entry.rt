@@ -29,7 +29,7 @@ fn is_state(n: usize) -> bool
 fn set(h: Head, args: &[u8], state: &[u8], result: &[u8]) -> Part
     ensures { λ r. ⌜ r ≡ setTo h (now (args .entry)) [] (now (state .entry)) (now (result .entry)) ⌝ }
 {
-    let untold = (h.refusal == NONE) & (h.answer == NONE);
+    let untold = (h.refusal == NONE) & (h.place == 0) & (h.answer == NONE);
     let bare = (args.len() == 0) & (result.len() == 0);
     if untold & (bare & is_state(state.len())) {
         return Part::Same;

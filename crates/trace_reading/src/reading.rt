@@ -59,13 +59,14 @@ fn length_at(header: &[u8], at: usize) -> usize
     word(header, at, 2) as usize
 }
 
-fn head_of(header: &[u8; HEADER]) -> Head
+fn head_of(header: &[u8]) -> Head
     requires { ⌜ length (now header) ≡ HEADER ⌝ }
     ensures { λ r. ⌜ r ≡ headOf (now (header .entry)) ⌝ }
 {
     Head {
         call: header[0],
         refusal: header[1],
+        place: word(header, 10, 2) as usize,
         answer: header[2],
     }
 }
@@ -77,7 +78,7 @@ fn read_entry(body: &mut [u8]) -> Shape
 {
     let mut header = [0u8; HEADER];
     let got = streams::read_full(&mut header);
-    let spare = header[3] | header[10] | header[11];
+    let spare = header[3];
     let args = length_at(&header, 4);
     let state = length_at(&header, 6);
     let result = length_at(&header, 8);
@@ -130,6 +131,7 @@ fn is_same(part: Part) -> bool
         Part::Same => true,
         Part::Unread => false,
         Part::Refusal => false,
+        Part::Place => false,
         Part::Answer => false,
         Part::State(_) => false,
         Part::Record(_) => false,
@@ -144,6 +146,7 @@ fn is_unread(part: Part) -> bool
         Part::Same => false,
         Part::Unread => true,
         Part::Refusal => false,
+        Part::Place => false,
         Part::Answer => false,
         Part::State(_) => false,
         Part::Record(_) => false,

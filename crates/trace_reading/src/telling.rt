@@ -20,6 +20,7 @@ fn say_part(part: Part) {
         Part::Same => say(b"agrees"),
         Part::Unread => say(b"cannot be read"),
         Part::Refusal => say(b"refusal differs"),
+        Part::Place => say(b"place differs"),
         Part::Answer => say(b"answer differs"),
         Part::State(byte) => say_at(b"state", byte),
         Part::Record(byte) => say_at(b"record", byte),

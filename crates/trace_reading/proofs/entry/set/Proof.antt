@@ -11,15 +11,17 @@ use Rattle.trace_reading.proofs.entry.set.Tie as tie
 returns : tie.Need-returns
 unfolding setTo
 returns c =
-    let a = c .before .before .before .before .before .before .before .args in
-    rw (ap (λ (b : Bool). (eqb (a .h .refusal) 0 && eqb (a .h .answer) 0) && ((eqb (length (a .args .now)) 0 && eqb (length (a .result .now)) 0) && b))
+    let k1 = c .before .before .before .before .before in
+    let a = k1 .before .before .before .args in
+    rw (ap (λ (b : Bool). ((eqb (a .h .refusal) 0 && eqb (a .h .place) 0) && eqb (a .h .answer) 0) && ((eqb (length (a .args .now)) 0 && eqb (length (a .result .now)) 0) && b))
     (sym (c .before .«is-state» .ensures)) ∙ c .if1 .taken)
 
 returns-2 : tie.Need-returns-2
 unfolding setTo
 returns-2 c =
-    let a = c .before .before .before .before .before .before .before .args in
-    rw (ap (λ (b : Bool). (eqb (a .h .refusal) 0 && eqb (a .h .answer) 0) && ((eqb (length (a .args .now)) 0 && eqb (length (a .result .now)) 0) && b))
+    let k1 = c .before .before .before .before .before in
+    let a = k1 .before .before .before .args in
+    rw (ap (λ (b : Bool). ((eqb (a .h .refusal) 0 && eqb (a .h .place) 0) && eqb (a .h .answer) 0) && ((eqb (length (a .args .now)) 0 && eqb (length (a .result .now)) 0) && b))
     (sym (c .before .«is-state» .ensures)) ∙ c .if1 .left)
 
 pub set-spec : {M : Type 1} → statement M
