@@ -1,15 +1,17 @@
 // Block Cutter: the check of a state that a caller hands in: whole passes over the cells, which are lent and never copied.
+mod cause;
+
 ghost use mathlib.Core.Bool.{_&&_};
 ghost use mathlib.Core.Path.{_≡_};
 ghost use Prim.Native.Nat.{_≤_};
 ghost use lib.Dec.{leb};
 ghost use lib.ListN.{length, take, drop};
 ghost use Rattle.laws.specs.Lists.{all};
-ghost use Rattle.refusal.specs.Faults.{firstFault, spareFault, faultIn};
-ghost use Rattle.cutter_ground.specs.Cells.{CN, onGrid};
+ghost use Rattle.cutter_ground.specs.Cells.{CN};
 ghost use Rattle.cutter_state.specs.State.{holdsAt};
-ghost use Rattle.cutter_state.specs.WellFormed.{rowsFilled, columnsFilled, cellsOk, footing, directionOk, isUnit, moverOk, isBlank, creatureFault, numbersOk, refusalOf};
+ghost use Rattle.cutter_state.specs.WellFormed.{rowsFilled, columnsFilled, cellsOk, footing, directionOk, isUnit, moverOk, isBlank, numbersOk, refusalOf};
 ghost use Rattle.cutter_check.specs.CodePasses.{largestOf, Counted};
+use cause::first_fault;
 use cutter_ground::CB_BLACK;
 use cutter_ground::CB_FILLED;
 use cutter_ground::CB_TRAIL;
@@ -22,15 +24,10 @@ use cutter_state::Cutter;
 use cutter_state::MAX_LEVEL;
 use cutter_state::MAX_LIVES;
 use refusal::CELLS;
-use refusal::HEADING;
 use refusal::NONE;
 use refusal::NUMBERS;
-use refusal::OFF_GRID;
 use refusal::PLAYER;
 use refusal::Refusal;
-use refusal::SPARE_SLOT;
-use refusal::TOO_MANY;
-use refusal::WRONG_CELL;
 ghost use Rattle.cutter_ground.specs.Movers.{MAX-ENEMIES};
 
 // The largest code of the grid tells both whether all are codes and whether one is line.
@@ -192,91 +189,6 @@ fn creatures_ok(grid: &[u8; CN], enemies: [Mover; MAX_ENEMIES], count: usize) ->
     movers_ok(grid, enemies, count) & rest_blank(enemies, count)
 }
 
-fn on_grid(x: usize, y: usize) -> bool
-    ensures { λ r. ⌜ r ≡ onGrid x y ⌝ }
-{
-    (x < CW) & (y < CH)
-}
-
-// What is wrong with e, the creature i.
-fn mover_fault(grid: &[u8; CN], i: usize, e: Mover) -> Refusal
-    requires { ⌜ length (now grid) ≡ CN ⌝ }
-    ensures { λ r. ⌜ r ≡ creatureFault (now (grid .entry)) i e ⌝ }
-{
-    let x = e.x as usize;
-    let y = e.y as usize;
-    if !on_grid(x, y) {
-        return Refusal {
-            number: OFF_GRID,
-            at: i,
-        };
-    }
-    if !holds(grid, CB_BLACK, x, y) {
-        return Refusal {
-            number: WRONG_CELL,
-            at: i,
-        };
-    }
-    if !velocity_ok(e) {
-        return Refusal {
-            number: HEADING,
-            at: i,
-        };
-    }
-    NONE
-}
-
-// The first of `count` creatures that is wrong.
-fn first_wrong(grid: &[u8; CN], enemies: [Mover; MAX_ENEMIES], count: usize) -> Refusal
-    requires { ⌜ Counted (now grid) count ⌝ }
-    ensures { λ r. ⌜ r ≡ firstFault (creatureFault (now (grid .entry))) 0 (take count enemies) ⌝ }
-{
-    let mut i: usize = 0;
-    while i < count {
-        let e = enemies[i];
-        let fault = mover_fault(grid, i, e);
-        if fault.number != NONE.number {
-            return fault;
-        }
-        i += 1;
-    }
-    NONE
-}
-
-// The first slot past the count that doesn't hold zeros.
-fn first_spare(enemies: [Mover; MAX_ENEMIES], count: usize) -> Refusal
-    requires { ⌜ count ≤ MAX-ENEMIES ⌝ }
-    ensures { λ r. ⌜ r ≡ firstFault (spareFault isBlank) count (drop count enemies) ⌝ }
-{
-    let mut k = count;
-    while k < MAX_ENEMIES {
-        let e = enemies[k];
-        if !blank_slot(e) {
-            return Refusal {
-                number: SPARE_SLOT,
-                at: k,
-            };
-        }
-        k += 1;
-    }
-    NONE
-}
-
-// What is wrong with the creatures, where creatures_ok has found that something is.
-fn cause(grid: &[u8; CN], enemies: [Mover; MAX_ENEMIES], count: usize) -> Refusal
-    requires { ⌜ length (now grid) ≡ CN ⌝ }
-    ensures { λ r. ⌜ r ≡ faultIn MAX-ENEMIES (creatureFault (now (grid .entry))) isBlank enemies count ⌝ }
-{
-    if MAX_ENEMIES < count {
-        return TOO_MANY;
-    }
-    let fault = first_wrong(grid, enemies, count);
-    if fault.number != NONE.number {
-        return fault;
-    }
-    first_spare(enemies, count)
-}
-
 fn numbers_ok(c: Cutter) -> bool
     ensures { λ r. ⌜ r ≡ numbersOk c ⌝ }
 {
@@ -297,7 +209,7 @@ pub fn check(c: Cutter) -> Refusal
         return PLAYER;
     }
     if !creatures_ok(&grid, enemies, c.count) {
-        return cause(&grid, enemies, c.count);
+        return first_fault(&grid, enemies, c.count);
     }
     if !numbers_ok(c) {
         return NUMBERS;

@@ -14,7 +14,7 @@ use Rattle.cutter_check.proofs.check.Statement.{statement}
 use Rattle.cutter_check.proofs.check.Tie as tie
 use Rattle.cutter_check.proofs.check.Reads as reads
 use Rattle.cutter_check.proofs.check.Lts as lts
-use Rattle.cutter_check.proofs.cause.Reads as cause-reads
+use Rattle.cutter_check.proofs.cause.first_fault.Reads as first-fault-reads
 use Rattle.cutter_check.proofs.cells_ok.Reads as cells-ok-reads
 use Rattle.cutter_check.proofs.player_ok.Reads as player-ok-reads
 use Rattle.cutter_check.proofs.creatures_ok.Reads as creatures-ok-reads
@@ -29,8 +29,8 @@ Began = lts.Start (
   player-ok-reads.Learnt,
   creatures-ok-reads.Asked,
   creatures-ok-reads.Learnt,
-  cause-reads.Asked,
-  cause-reads.Learnt,
+  first-fault-reads.Asked,
+  first-fault-reads.Learnt,
   numbers-ok-reads.Asked,
   numbers-ok-reads.Learnt,
 ) reads.Pre reads.Post
@@ -72,7 +72,7 @@ returns-3 c =
     let k = a .before in
     let s = k .before .before .before .before in
     no-creatures (s .args .c) (full s) (k .cells-ok .ensures) (a .if1 .left) (player s (p .player-ok .ensures)) (b .if2 .left)
-    (t .before .creatures-ok .ensures) (t .if3 .taken) (c .cause .ensures)
+    (t .before .creatures-ok .ensures) (t .if3 .taken) (c .first-fault .ensures)
 
 returns-4 : tie.Need-returns-4
 returns-4 c =

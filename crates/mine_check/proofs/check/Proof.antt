@@ -5,7 +5,7 @@ use Rattle.mine_check.proofs.check.Statement.{statement}
 use Rattle.mine_check.proofs.check.Tie as tie
 use Rattle.mine_check.proofs.check.Reads as reads
 use Rattle.mine_check.proofs.check.Lts as lts
-use Rattle.mine_check.proofs.cause.Reads as cause-reads
+use Rattle.mine_check.proofs.cause.first_fault.Reads as first-fault-reads
 use Rattle.mine_check.proofs.codes_ok.Reads as codes-ok-reads
 use Rattle.mine_check.proofs.creatures_ok.Reads as creatures-ok-reads
 use Rattle.mine_check.proofs.empty_at.Reads as empty-at-reads
@@ -20,8 +20,8 @@ Began = lts.Start (
   empty-at-reads.Learnt,
   creatures-ok-reads.Asked,
   creatures-ok-reads.Learnt,
-  cause-reads.Asked,
-  cause-reads.Learnt,
+  first-fault-reads.Asked,
+  first-fault-reads.Learnt,
   numbers-ok-reads.Asked,
   numbers-ok-reads.Learnt,
 ) reads.Pre reads.Post
@@ -51,7 +51,7 @@ returns-3 c =
     let k = a .before in
     let s = k .before .before .before .before in
     no-creatures (s .args .m) (sized s) (k .codes-ok .ensures) (a .if1 .left) (b .before .empty-at .ensures) (b .if2 .left)
-    (t .before .creatures-ok .ensures) (t .if3 .taken) (c .cause .ensures)
+    (t .before .creatures-ok .ensures) (t .if3 .taken) (c .first-fault .ensures)
 
 returns-4 : tie.Need-returns-4
 returns-4 c =

@@ -6,8 +6,8 @@ use borrow.Author.Needs.{needs}
 use Rattle.laws.specs.Lists.{any}
 use Rattle.laws.proofs.Lists.{mapped, taken-one, taken-end, any-more, any-holds, any-end}
 use Rattle.mine_state.specs.State.{MAX-ENEMIES, standsAt}
-use Rattle.mine_check.proofs.shared.Statement.{statement}
-use Rattle.mine_check.proofs.shared.Tie as tie
+use Rattle.mine_check.proofs.cause.shared.Statement.{statement}
+use Rattle.mine_check.proofs.cause.shared.Tie as tie
 
 abbrev Inv-loop : tie.InvT-loop
 Inv-loop i e enemies j₀ j = any (standsAt (e .x) (e .y)) (drop j (take i enemies)) ≡ any (standsAt (e .x) (e .y)) (take i enemies)

@@ -9,8 +9,8 @@ use Rattle.refusal.specs.Faults.{firstFault, spareFault}
 use Rattle.refusal.proofs.Faults.{spare-more, spare-found, fault-end}
 use Rattle.cutter_ground.specs.Movers.{MAX-ENEMIES}
 use Rattle.cutter_state.specs.WellFormed.{isBlank}
-use Rattle.cutter_check.proofs.first_spare.Statement.{statement}
-use Rattle.cutter_check.proofs.first_spare.Tie as tie
+use Rattle.cutter_check.proofs.cause.first_spare.Statement.{statement}
+use Rattle.cutter_check.proofs.cause.first_spare.Tie as tie
 
 abbrev Inv-loop : tie.InvT-loop
 Inv-loop count enemies k₀ k = (k ≤ MAX-ENEMIES) × (firstFault (spareFault isBlank) k (drop k enemies) ≡ firstFault (spareFault isBlank) count (drop count enemies))

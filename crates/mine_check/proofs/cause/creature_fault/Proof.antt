@@ -2,8 +2,8 @@ use mathlib.Core.Path.{sym, _∙_}
 use borrow.Author.Needs.{needs}
 use borrow.Author.Tests.{le-leb, lt-leb, not-true, not-false}
 use Rattle.mine_state.specs.WellFormed.{creatureFault}
-use Rattle.mine_check.proofs.creature_fault.Statement.{statement}
-use Rattle.mine_check.proofs.creature_fault.Tie as tie
+use Rattle.mine_check.proofs.cause.creature_fault.Statement.{statement}
+use Rattle.mine_check.proofs.cause.creature_fault.Tie as tie
 
 returns : tie.Need-returns
 unfolding creatureFault

@@ -2,8 +2,8 @@ use mathlib.Core.Path.{sym, _∙_}
 use borrow.Author.Needs.{needs}
 use borrow.Author.Tests.{not-true, not-false}
 use Rattle.cutter_state.specs.WellFormed.{creatureFault}
-use Rattle.cutter_check.proofs.mover_fault.Statement.{statement}
-use Rattle.cutter_check.proofs.mover_fault.Tie as tie
+use Rattle.cutter_check.proofs.cause.mover_fault.Statement.{statement}
+use Rattle.cutter_check.proofs.cause.mover_fault.Tie as tie
 
 returns : tie.Need-returns
 unfolding creatureFault

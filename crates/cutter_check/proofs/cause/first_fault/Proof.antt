@@ -5,8 +5,8 @@ use Rattle.laws.proofs.Lists.{mapped}
 use Rattle.refusal.proofs.Faults.{in-many, in-creature, in-slot}
 use Rattle.cutter_ground.specs.Movers.{MAX-ENEMIES}
 use Rattle.cutter_state.specs.WellFormed.{isBlank, creatureFault}
-use Rattle.cutter_check.proofs.cause.Statement.{statement}
-use Rattle.cutter_check.proofs.cause.Tie as tie
+use Rattle.cutter_check.proofs.cause.first_fault.Statement.{statement}
+use Rattle.cutter_check.proofs.cause.first_fault.Tie as tie
 
 returns : tie.Need-returns
 returns c =
@@ -30,6 +30,6 @@ returns-3 c =
     in-slot MAX-ENEMIES (creatureFault (s .args .grid .now)) isBlank l (s .args .count) full (f .before .if1 .left) (f .first-wrong .ensures)
     (c .before .if2 .left) (c .first-spare .ensures)
 
-pub cause-spec : {M : Type 1} → statement M
-cause-spec =
+pub first-fault-spec : {M : Type 1} → statement M
+first-fault-spec =
     tie.close (tie.spec returns (λ c κs. search needs) returns-2 (λ c κs. search needs) returns-3)

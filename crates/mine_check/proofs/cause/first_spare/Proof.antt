@@ -9,8 +9,8 @@ use Rattle.refusal.specs.Faults.{firstFault, spareFault}
 use Rattle.refusal.proofs.Faults.{spare-more, spare-found, fault-end}
 use Rattle.mine_state.specs.State.{MAX-ENEMIES}
 use Rattle.mine_state.specs.WellFormed.{isBlank}
-use Rattle.mine_check.proofs.first_spare.Statement.{statement}
-use Rattle.mine_check.proofs.first_spare.Tie as tie
+use Rattle.mine_check.proofs.cause.first_spare.Statement.{statement}
+use Rattle.mine_check.proofs.cause.first_spare.Tie as tie
 
 abbrev Inv-loop : tie.InvT-loop
 Inv-loop n enemies k₀ k = (k ≤ MAX-ENEMIES) × (firstFault (spareFault isBlank) k (drop k enemies) ≡ firstFault (spareFault isBlank) n (drop n enemies))
