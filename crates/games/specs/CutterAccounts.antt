@@ -38,6 +38,7 @@ pub record CutterFormed : Type 0 where
   pub sweeps : (c : Cutter) → Formed (sweepsCall c)
   pub tick : (c : Cutter) → Formed (enemiesCall c)
   pub respawn : (c : Cutter) → Formed (respawnCall c)
-  pub pass : (c : Cutter) (keys draws : List ℕ) (time : ℕ) (pace : Pace) → passOf c keys draws time pace .0 .refusal .number ≡ 0 → WellFormed (passOf c keys draws time pace .0 .game)
+  pub pass : (c : Cutter) (keys draws : List ℕ) (time : ℕ) (pace : Pace)
+      → passOf c keys draws time pace .0 .refusal .number ≡ 0 → WellFormed (passOf c keys draws time pace .0 .game)
   pub passMarks : (c : Cutter) (keys draws : List ℕ) (time first second : ℕ) → passAt c keys draws time first second .passed .refusal .number ≡ 0
       → WellFormed (passAt c keys draws time first second .passed .game)

@@ -17,6 +17,7 @@ use Rattle.lines.specs.Runs.{linesOf}
 use Rattle.lines.specs.Mines.{saidOf, mineByte, mineNext, mineLines}
 
 pub example : mineLines false loaded (bytesOf "L9g") ≡ bytesOf "1 1 0 28 2 0 0\n2 1 0 28 2 0 0\n2 1 0 28 2 0 0\n"
-unfolding mineNext mineByte saidOf linesOf lineOf numbersLine further decimalIn moveCall gravityCall refusalOf cellsOk creaturesFault creatureFault faultIn firstFault numbersOk emptyAt freeAt loaded mineOf
-    readFrom readAt pushed met moved nextCell carried rested without overPlayer overCreature overEmpty rolled overOther cellFall rowFall gravityOf
+unfolding mineNext mineByte saidOf linesOf lineOf numbersLine further decimalIn moveCall gravityCall refusalOf cellsOk creaturesFault creatureFault
+    faultIn firstFault numbersOk emptyAt freeAt loaded mineOf readFrom readAt pushed met moved nextCell carried rested without overPlayer overCreature
+    overEmpty rolled overOther cellFall rowFall gravityOf
 example = refl

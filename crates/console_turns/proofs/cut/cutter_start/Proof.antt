@@ -8,11 +8,15 @@ use Rattle.console_turns.proofs.cut.cutter_start.Tie as tie
 
 returns : tie.Need-returns
 unfolding cutterStarted
-returns c = simp (c .before .before .before .before .before .before .start .ensures, sym (c .before .before .before .before .before .new-round .ensures), eq-eqb _ _ (c .if1 .taken))
+returns c =
+    let r = c .before .before .before .before .before in
+    simp (r .before .start .ensures, sym (r .new-round .ensures), eq-eqb _ _ (c .if1 .taken))
 
 returns-2 : tie.Need-returns-2
 unfolding cutterStarted
-returns-2 c = simp (c .before .before .before .before .before .before .start .ensures, sym (c .before .before .before .before .before .new-round .ensures), ne-eqb _ _ (c .if1 .left))
+returns-2 c =
+    let r = c .before .before .before .before .before in
+    simp (r .before .start .ensures, sym (r .new-round .ensures), ne-eqb _ _ (c .if1 .left))
 
 pub cutter-start-spec : {M : Type 1} → statement M
 cutter-start-spec = tie.close (tie.spec (λ c κs. search needs) (λ c κs. search needs) returns returns-2)
