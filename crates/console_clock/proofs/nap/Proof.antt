@@ -49,7 +49,8 @@ use Rattle.libc.proofs.nanosleep as sleep
 use Rattle.libc.proofs.nanosleep.Symbol as sleep-def
 use Rattle.libc.proofs.nanosleep.Symbol.{name as #sleep}
 use Rattle.libc.proofs.nanosleep.Met as sleep-thm
-use Rattle.console_clock.proofs.Lent.{Here, val, made, lends-time, time-back, shares-time, shared-back}
+use Rattle.lent.proofs.Lent.{Made, Here, lends, back, shares, shared-back}
+use Rattle.console_clock.proofs.Lent.{time, made}
 use Rattle.console_clock.proofs.nap.Key.{name as #nap}
 use Rattle.console_clock.proofs.nap as nap
 use Rattle.console_clock.proofs.nap.Statement as stated
@@ -65,7 +66,7 @@ Sleep 𝓤 H A mem run = tripleOf 𝓤 H A sleep.signature (sleep.spec 𝓤 H A 
 abbrev none : timespec
 none = record { «tv_sec» = pos 0; «tv_nsec» = pos 0 }
 
-none-is : Is T.the-row none (val none ∷ [])
+none-is : Made time none
 none-is = made none (omega arith) (omega arith)
 
 module _ {M : Type 1} (𝓤 : URA M) (H : Heap 𝓤) (A : Atoms 𝓤) (W : Given 𝓤 H A) (at-mem : Memory → SProp 𝓤) (run : Routine → Fun 𝓤) (n : ℤ) (n-is : Is i64 n (sint-vals w64 n)) where
@@ -73,7 +74,7 @@ module _ {M : Type 1} (𝓤 : URA M) (H : Heap 𝓤) (A : Atoms 𝓤) (W : Given
   abbrev asked : timespec
   asked = record { «tv_sec» = pos 0; «tv_nsec» = n }
 
-  asked-is : Is T.the-row asked (val asked ∷ [])
+  asked-is : Made time asked
   asked-is = made asked (omega arith) (n-is .1)
 
   abbrev Post : Val → SProp 𝓤
@@ -135,10 +136,10 @@ module _ {M : Type 1} (𝓤 : URA M) (H : Heap 𝓤) (A : Atoms 𝓤) (W : Given
         assigns ! (addr ! (from ! (stop !))) (from ! (stop !)) (init ! 2 refl (tt, tt)) $
         assigns ! (addr ! (from ! (stop !))) (from ! (stop !)) (init ! 0 refl (tt, tt)) $
         lft-new ! tt (λ α. move ! (9 ∷ []) $
-        use1 W (later (some (λ (γ : GName). ‵ (Shr l₂ l₃ α α γ γ) ⊛ ‵ (Shared l₂ l₃ α α γ γ)))) (shares-time 𝓤 H A W asked l₂ (α ∷ []) (named 0) asked-is) $ await ! tt $
+        use1 W (later (some (λ (γ : GName). ‵ (Shr l₂ l₃ α α γ γ) ⊛ ‵ (Shared l₂ l₃ α α γ γ)))) (shares time 𝓤 H A W asked l₂ (α ∷ []) (named 0) asked-is) $ await ! tt $
         pick ! (λ γ. split ! $
         lft-new ! tt (λ β. move ! (10 ∷ []) $
-        use1 W (later (some (λ (δ : GName). ‵ (Mut l₂ l₃ α β γ δ) ⊛ ‵ (Loan l₂ l₃ α β γ δ)))) (lends-time 𝓤 H A W none l₃ (β ∷ []) (named 1) none-is) $ await ! tt $
+        use1 W (later (some (λ (δ : GName). ‵ (Mut l₂ l₃ α β γ δ) ⊛ ‵ (Loan l₂ l₃ α β γ δ)))) (lends time 𝓤 H A W none l₃ (β ∷ []) (named 1) none-is) $ await ! tt $
         pick ! (λ δ. split ! $
         -- [the second reference; its loan; its token; the first reference; its loan; its token; _6; …; _5; …; _4; …; what frees _3; what frees _2; _1; …; _0; …]
         move ! (5 ∷ 2 ∷ []) $ join ! $ move ! (3 ∷ 1 ∷ []) $ join ! $ use2 W (raw (Sleep 𝓤 H A at-mem run .pre (to l₂ l₃ α β γ δ))) (goes l₂ l₃ α β γ δ) $
@@ -151,9 +152,9 @@ module _ {M : Type 1} (𝓤 : URA M) (H : Heap 𝓤) (A : Atoms 𝓤) (W : Given
         peeks ! i32 (Is i32) (shows 𝓤 H A i32) r (u ∷ []) (λ is. drop ! $
         -- [the tokens; what the second time holds last; both loans; _6; …]
         land ! (from ! (stop !)) (init ! 8 refl (sint-lawful 𝓤 H A W w32 .typed r _ is .0)) $ split ! $ lft-end ! tt $ move ! (0 ∷ 4 ∷ []) $
-        use2 W (later (given (Is T.the-row asked (val asked ∷ [])) (‵ (Here asked l₂)))) (shared-back 𝓤 H A W asked l₂ (α ∷ [])) $ await ! tt $ learn ! (λ f.
+        use2 W (later (given (Made time asked) (‵ (Here time asked l₂)))) (shared-back time 𝓤 H A W asked l₂ (α ∷ [])) $ await ! tt $ learn ! (λ f.
         move ! (1 ∷ []) $ split ! $ lft-end ! tt $ move ! (0 ∷ 4 ∷ 3 ∷ []) $
-        use3 W (later (given (Is T.the-row t (val t ∷ [])) (‵ (Here t l₃)))) (time-back 𝓤 H A W t l₃ (β ∷ []) δ) $ await ! tt $ learn ! (λ g.
+        use3 W (later (given (Made time t) (‵ (Here time t l₃)))) (back time 𝓤 H A W t l₃ (β ∷ []) δ) $ await ! tt $ learn ! (λ g.
         -- [_3; true; _2; _6; …; _5; …; _4; …; what frees _3; what frees _2; _1; …; _0; …]
         assigns ! (of-opd ! (unit-lit !)) (from ! (stop !)) (init ! 13 refl (tt, tt)) $
         returns ! (look ! 13 refl) $ forget ! 0 refl $ forget ! 2 refl $ forget ! 3 refl $ forget ! 5 refl $ forget ! 7 refl $ forget ! 11 refl $ forget ! 13 refl $

@@ -47,7 +47,8 @@ use Rattle.libc.proofs.clock_gettime as gettime
 use Rattle.libc.proofs.clock_gettime.Symbol as gettime-def
 use Rattle.libc.proofs.clock_gettime.Symbol.{name as #gettime}
 use Rattle.libc.proofs.clock_gettime.Met as gettime-thm
-use Rattle.console_clock.proofs.Lent.{Here, val, made, lends-time, time-back}
+use Rattle.lent.proofs.Lent.{Made, Here, lends, back}
+use Rattle.console_clock.proofs.Lent.{time, made}
 use Rattle.console_clock.proofs.stamp.Key.{name as #stamp}
 use Rattle.console_clock.proofs.stamp as stamp
 use Rattle.console_clock.proofs.stamp.Statement as stated
@@ -63,7 +64,7 @@ Gettime 𝓤 H A mem run = tripleOf 𝓤 H A gettime.signature (gettime.spec �
 abbrev none : timespec
 none = record { «tv_sec» = pos 0; «tv_nsec» = pos 0 }
 
-none-is : Is T.the-row none (val none ∷ [])
+none-is : Made time none
 none-is = made none (omega arith) (omega arith)
 
 abbrev MONOTONIC : ℤ
@@ -76,9 +77,9 @@ module _ {M : Type 1} (𝓤 : URA M) (H : Heap 𝓤) (A : Atoms 𝓤) (W : Given
   abbrev Post : Val → SProp 𝓤
   Post = walkOf 𝓤 H A stamp.ended stayed (stamp.clauses 𝓤 H A at-mem run) .post ((tt, tt, tt, tt, tt), tt)
 
-  exits : (t : timespec) → Is T.the-row t (val t ∷ []) → ent 𝓤 (emp 𝓤) (Post (val t))
+  exits : (t : timespec) → Made time t → ent 𝓤 (emp 𝓤) (Post (LL.val T.the-type T′.the-laws t))
   exits t is =
-      qed W [] ∵ suffices ! _ (ends-at 𝓤 H A stamp.ended stayed (stamp.clauses 𝓤 H A at-mem run) W ((tt, tt, tt, tt, tt), tt) (val t) t tt tt) $
+      qed W [] ∵ suffices ! _ (ends-at 𝓤 H A stamp.ended stayed (stamp.clauses 𝓤 H A at-mem run) W ((tt, tt, tt, tt, tt), tt) (LL.val T.the-type T′.the-laws t) t tt tt) $
       owned ! T.the-row (Is T.the-row) (LL.makes T.the-type T′.the-plain 𝓤 H A) t _ is $ nothing ! $ join ! $ nothing ! $ join ! $ frame ! $ done !
 
   -- the call, with the time in the local b lent for the lifetime α
@@ -118,7 +119,7 @@ module _ {M : Type 1} (𝓤 : URA M) (H : Heap 𝓤) (A : Atoms 𝓤) (W : Given
         (init ! 4 refl (LL.lawful T.the-type T′.the-laws 𝓤 H A W .typed none _ none-is .0)) $
         assigns ! (addr ! (from ! (stop !))) (from ! (stop !)) (init ! 0 refl (tt, tt)) $
         lft-new ! tt (λ α. move ! (5 ∷ []) $
-        use1 W (later (some (λ (γ : GName). ‵ (Ref l₁ α γ) ⊛ ‵ (Loan l₁ α γ)))) (lends-time 𝓤 H A W none l₁ (α ∷ []) (named 0) none-is) $ await ! tt $ pick ! (λ γ. split ! $
+        use1 W (later (some (λ (γ : GName). ‵ (Ref l₁ α γ) ⊛ ‵ (Loan l₁ α γ)))) (lends time 𝓤 H A W none l₁ (α ∷ []) (named 0) none-is) $ await ! tt $ pick ! (λ γ. split ! $
         -- [the reference; the loan; its token; _3; …; _2; …; what frees _1; _0; …]
         move ! (2 ∷ 0 ∷ []) $ use2 W (raw (Gettime 𝓤 H A at-mem run .pre (to l₁ α γ))) (goes l₁ α γ) $
         calls-at ! fm (Gettime 𝓤 H A at-mem run) known (to l₁ α γ) (and-then ! (lit ! tt) (and-then ! (load ! (from ! (stop !)) (look ! 2 refl)) (no-more !))) (λ u.
@@ -129,7 +130,7 @@ module _ {M : Type 1} (𝓤 : URA M) (H : Heap 𝓤) (A : Atoms 𝓤) (W : Given
         peeks ! i32 (Is i32) (shows 𝓤 H A i32) r (u ∷ []) (λ is. drop ! $
         -- [the token; what the time holds last; the loan; _3; …; _2; …]
         land ! (from ! (stop !)) (init ! 5 refl (sint-lawful 𝓤 H A W w32 .typed r _ is .0)) $ split ! $ lft-end ! tt $ move ! (0 ∷ 3 ∷ 2 ∷ []) $
-        use3 W (later (given (Is T.the-row t (val t ∷ [])) (‵ (Here t l₁)))) (time-back 𝓤 H A W t l₁ (α ∷ []) γ) $ await ! tt $ learn ! (λ g.
+        use3 W (later (given (Made time t) (‵ (Here time t l₁)))) (back time 𝓤 H A W t l₁ (α ∷ []) γ) $ await ! tt $ learn ! (λ g.
         -- [_1; true; _3; …; _2; …; what frees _1; _0; …]
         assigns ! (of-opd ! (load ! (from ! (stop !)) (look ! 0 refl))) (from ! (stop !)) (init ! 7 refl (LL.lawful T.the-type T′.the-laws 𝓤 H A W .typed t _ g .0)) $
         returns ! (look ! 7 refl) $ forget ! 0 refl $ forget ! 2 refl $ forget ! 4 refl $ forget ! 7 refl $

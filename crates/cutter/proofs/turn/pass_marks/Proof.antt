@@ -45,7 +45,8 @@ use denote.Exit.{yes}
 use Rattle.pace.specs.declared.Pace.{Pace}
 use Rattle.pace.proofs.Pace as T
 use Rattle.pace.proofs.Pace.Laws as T′
-use Rattle.pace.proofs.Lent.{Here, made, lends-pace, pace-back}
+use Rattle.lent.proofs.Lent.{Here, lends, back}
+use Rattle.pace.proofs.Lent.{pace, made}
 use Rattle.cutter_state.specs.declared.Cutter.{Cutter}
 use Rattle.cutter_state.proofs.Cutter as G
 use Rattle.cutter_state.proofs.Cutter.Laws as G′
@@ -205,7 +206,7 @@ module _ {M : Type 1} (𝓤 : URA M) (H : Heap 𝓤) (A : Atoms 𝓤) (W : Given
         (init ! 8 refl (LL.lawful T.the-type T′.the-laws 𝓤 H A W .typed p _ (made p f-fits s-fits) .0)) $
         assigns ! (addr ! (from ! (stop !))) (from ! (stop !)) (init ! 4 refl (tt, tt)) $
         lft-new ! tt (λ α. move ! (9 ∷ []) $
-        use1 W (later (some (λ (γ : GName). ‵ (Ref l₇ α γ) ⊛ ‵ (Loan l₇ α γ)))) (lends-pace 𝓤 H A W p l₇ (α ∷ []) (named 2) (made p f-fits s-fits)) $ await ! tt $
+        use1 W (later (some (λ (γ : GName). ‵ (Ref l₇ α γ) ⊛ ‵ (Loan l₇ α γ)))) (lends pace 𝓤 H A W p l₇ (α ∷ []) (named 2) (made p f-fits s-fits)) $ await ! tt $
         pick ! (λ γ. split ! $
         -- [the reference; the loan; its token; _11; …; _8; …; what frees _7; _6; …; _0; …; what goes to the callee; what is kept]
         move ! (2 ∷ 0 ∷ []) $ join ! $ move ! (25 ∷ []) $ use2 W (raw (Pass 𝓤 H A at-mem run .pre (to l₇ α γ))) (goes l₇ α γ) $
@@ -223,8 +224,8 @@ module _ {M : Type 1} (𝓤 : URA M) (H : Heap 𝓤) (A : Atoms 𝓤) (W : Given
         land ! (from ! (stop !)) (init ! 9 refl (LL.lawful P.the-type P′.the-laws 𝓤 H A W .typed r _ is .0)) $ rewrite ! 9 (λ (w : Val). ‵ (fat fullShare P′.mir l₈ 0 w))
         (ap only (LL.tells P.the-type P′.the-laws r (u ∷ []) is)) refl $
         split ! $ move ! (1 ∷ []) $ split ! $ move ! (1 ∷ []) $ split ! $ lft-end ! tt $ move ! (0 ∷ 5 ∷ 4 ∷ []) $
-        use3 W (later (given (Is T.the-row (marksOf found) (LL.val T.the-type T′.the-laws (marksOf found) ∷ [])) (‵ (Here (marksOf found) l₇))))
-        (pace-back 𝓤 H A W (marksOf found) l₇ (α ∷ []) γ) $ await ! tt $ learn ! (λ g.
+        use3 W (later (given (Is T.the-row (marksOf found) (LL.val T.the-type T′.the-laws (marksOf found) ∷ [])) (‵ (Here pace (marksOf found) l₇))))
+        (back pace 𝓤 H A W (marksOf found) l₇ (α ∷ []) γ) $ await ! tt $ learn ! (λ g.
         -- [_7; true; the draws' token; the keys' token; _11; …; _8; …; what frees _7; _6; …; _0; …; what is kept]
         assigns ! (of-opd ! (load ! (from ! (fld ! refl (stop !))) (look-in ! 0 (sub ! 0 refl (whole !))))) (from ! (stop !)) (init ! 6 refl (
           tt,

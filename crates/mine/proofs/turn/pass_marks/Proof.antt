@@ -45,7 +45,8 @@ use denote.Exit.{yes}
 use Rattle.pace.specs.declared.Pace.{Pace}
 use Rattle.pace.proofs.Pace as T
 use Rattle.pace.proofs.Pace.Laws as T′
-use Rattle.pace.proofs.Lent.{Here, made, lends-pace, pace-back}
+use Rattle.lent.proofs.Lent.{Here, lends, back}
+use Rattle.pace.proofs.Lent.{pace, made}
 use Rattle.mine_state.specs.declared.Mine.{Mine}
 use Rattle.mine_state.proofs.Mine as G
 use Rattle.mine_state.proofs.Mine.Laws as G′
@@ -186,7 +187,7 @@ module _ {M : Type 1} (𝓤 : URA M) (H : Heap 𝓤) (A : Atoms 𝓤) (W : Given
         (init ! 8 refl (LL.lawful T.the-type T′.the-laws 𝓤 H A W .typed p _ (made p f-fits s-fits) .0)) $
         assigns ! (addr ! (from ! (stop !))) (from ! (stop !)) (init ! 4 refl (tt, tt)) $
         lft-new ! tt (λ α. move ! (9 ∷ []) $
-        use1 W (later (some (λ (γ : GName). ‵ (Ref l₆ α γ) ⊛ ‵ (Loan l₆ α γ)))) (lends-pace 𝓤 H A W p l₆ (α ∷ []) (named 1) (made p f-fits s-fits)) $ await ! tt $
+        use1 W (later (some (λ (γ : GName). ‵ (Ref l₆ α γ) ⊛ ‵ (Loan l₆ α γ)))) (lends pace 𝓤 H A W p l₆ (α ∷ []) (named 1) (made p f-fits s-fits)) $ await ! tt $
         pick ! (λ γ. split ! $
         -- [the reference; the loan; its token; _10; …; _7; …; what frees _6; _5; …; _0; …; the keys' token; keys; keys]
         move ! (2 ∷ 0 ∷ []) $ join ! $ move ! (23 ∷ 24 ∷ []) $ join ! $ use2 W (raw (Pass 𝓤 H A at-mem run .pre (to l₆ α γ))) (goes l₆ α γ) $
@@ -203,8 +204,8 @@ module _ {M : Type 1} (𝓤 : URA M) (H : Heap 𝓤) (A : Atoms 𝓤) (W : Given
         land ! (from ! (stop !)) (init ! 9 refl (LL.lawful P.the-type P′.the-laws 𝓤 H A W .typed r _ is .0)) $ rewrite ! 9 (λ (w : Val). ‵ (fat fullShare P′.mir l₇ 0 w))
         (ap only (LL.tells P.the-type P′.the-laws r (u ∷ []) is)) refl $
         split ! $ move ! (1 ∷ []) $ split ! $ lft-end ! tt $ move ! (0 ∷ 4 ∷ 3 ∷ []) $
-        use3 W (later (given (Is T.the-row (marksOf found) (LL.val T.the-type T′.the-laws (marksOf found) ∷ [])) (‵ (Here (marksOf found) l₆))))
-        (pace-back 𝓤 H A W (marksOf found) l₆ (α ∷ []) γ) $ await ! tt $ learn ! (λ g.
+        use3 W (later (given (Is T.the-row (marksOf found) (LL.val T.the-type T′.the-laws (marksOf found) ∷ [])) (‵ (Here pace (marksOf found) l₆))))
+        (back pace 𝓤 H A W (marksOf found) l₆ (α ∷ []) γ) $ await ! tt $ learn ! (λ g.
         -- [_6; true; the keys' token; _10; …; _7; …; what frees _6; _5; …; _0; …; keys]
         assigns ! (of-opd ! (load ! (from ! (fld ! refl (stop !))) (look-in ! 0 (sub ! 0 refl (whole !))))) (from ! (stop !)) (init ! 5 refl (
           tt,

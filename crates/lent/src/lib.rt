@@ -1,0 +1,1 @@
+// No code: a struct in a local, lent and taken back.
