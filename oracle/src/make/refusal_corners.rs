@@ -157,6 +157,10 @@ fn mine_creatures(out: &mut Corners) {
     }
     add("the player off the grid, and too many", &base, &|m| (m.px, m.count) = (W, 9));
     add("a slot, and needed 0", &base, &|m| (m.enemies[7].x, m.needed) = (1, 0));
+    add("eight right ones in all directions, and needed 0", &eight, &|m| {
+        m.enemies.iter_mut().zip([0, 1, 2, 3].repeat(2)).for_each(|(e, dir)| e.dir = dir);
+        m.needed = 0;
+    });
     for (name, m) in states {
         let calls = battery::mine(&Pace::default(), SMALL);
         out.mine(&format!("Mine: {name}"), &m, calls);
@@ -193,6 +197,11 @@ fn cutter_creatures(out: &mut Corners) {
     }
     add("the player off the grid, and too many", &base, &|c| (c.px, c.count) = (CW, 17));
     add("a slot, and no level", &base, &|c| (c.enemies[15].x, c.level) = (1, 0));
+    add("sixteen right ones in all directions, and no level", &all, &|c| {
+        let ways = [(1, 1), (1, -1), (-1, 1), (-1, -1)].repeat(4);
+        c.enemies.iter_mut().zip(ways).for_each(|(e, way)| (e.vx, e.vy) = way);
+        c.level = 0;
+    });
     for (name, c) in states {
         let calls = battery::cutter(&c, &Pace::default(), SMALL);
         out.cutter(&format!("Cutter: {name}"), &c, calls);
