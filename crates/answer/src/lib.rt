@@ -1,8 +1,10 @@
 // What a pass answers: the round goes on, or how it ends.
+#![tactic(auto)]
+
 ghost use Rattle.std.specs.Prelude.{◌≡◌};
 ghost use Rattle.answer.specs.Answer.{number_of};
 
-#[derive(Drop)]
+#[derive(Clone, Copy)]
 pub enum Answer {
     GoingOn,
     Won,

@@ -1,12 +1,12 @@
 -- The laws of `number`: a number by its bits. One law for each operation, over the number of bits. Assumes nothing.
-use mathlib.Core.Path.{◌≡◌, refl, sym, ap, ap₂, ◌∙◌, subst}
+use mathlib.Core.Path.{◌≡◌, refl, sym, ap, ap₂, ◌∙◌}
 use mathlib.Core.Bool.{Bool, true, false, ◌||◌, ◌&&◌, not, xor}
 use Prim.Native.Nat.{ℕ, zero, suc, ◌+◌, ◌-◌, ◌*◌, ◌/◌, ◌%◌, ◌^◌, ◌≤◌, ◌<◌}
-use native.Mathlib.Nat.{mod-lt, pow-suc, add-zero, add-suc, add-mul, add_assoc, mul_assoc, mul_comm, mod-one, mod-eq_of_lt}
+use native.Mathlib.Nat.{pow-suc, add-zero, add-suc, add-mul, add_assoc, mul_assoc, mul_comm, mod-one, mod-eq_of_lt}
 use native.Mathlib.Numerals.{add-one, one-add}
 use native.Mathlib.Omega.{arith}
-use lib.Dec.{eqb, T}
-use lib.Pow.{pow_pos, shl_exact, pow-add, mod-pow-add, high, low}
+use lib.Dec.{eqb}
+use lib.Pow.{shl_exact, pow-add, mod-pow-add, high, low}
 use lib.Bits.{bit_and, bit_or, bit_xor, or_block, and_block, xor_block, or_shifted_r, and_mask}
 use Rattle.laws.specs.Lists.{bit}
 use Rattle.bits.specs.Bits.{number, bit_at}

@@ -1,4 +1,6 @@
 // Page bytes: the column of a tile, one pixel, and a cell of 2 by 2 pixels, the lowest bit topmost.
+#![tactic(auto)]
+
 ghost use Rattle.std.specs.Prelude.{◌≡◌, ◌&&◌, ◌+◌, ◌*◌, ◌<◌, ◌/◌, eqb};
 ghost use Rattle.bits.specs.Bits.{number, art_bit};
 

@@ -1,7 +1,7 @@
 -- A contract that says one fact of an outcome decides it where two outcomes with the fact are one. Assumes nothing.
 use mathlib.Core.Path.{◌≡◌, sym, ap, ◌∙◌}
 use seplogic.Ra.Ura.{Ura}
-use base.Logic.{ent, via}
+use base.Logic.{ent}
 use contract.Monad.{conj, conj_l, conj_r, fact, fact_i, fact_use}
 
 pub both_facts : {M : Type 1} (𝓤 : Ura M) (φ ψ χ : Type 0) → (φ → ψ → χ) → ent 𝓤 (conj 𝓤 (fact 𝓤 φ) (fact 𝓤 ψ)) (fact 𝓤 χ)

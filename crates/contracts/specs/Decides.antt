@@ -26,8 +26,8 @@ module _ (M : Type 1) (T : Ended) where
   abbrev pub DecidesOf : (B : Lives → Type 0) → ((κs : Lives) → Answer κs → B κs) → Contract → Type 2
   DecidesOf B told c =
       (𝓤 : Ura M) (𝓛 : Logic 𝓤) (mem : Memory → SProp 𝓤) (run : Routine → Fun 𝓤)
-      (κs : Lives) (a : Args T.signature κs) (g : (c 𝓛 mem run κs a).ghost) (r r' : Answer κs) (s s' : Lasts T κs a)
-      → ent 𝓤 (conj 𝓤 ((c 𝓛 mem run κs a).ensures g r (at_exit T κs a s)) ((c 𝓛 mem run κs a).ensures g r' (at_exit T κs a s')))
+      (κs : Lives) (a : Args T.signature κs) (g : (c 𝓤 𝓛 mem run κs a).ghost) (r r' : Answer κs) (s s' : Lasts T κs a)
+      → ent 𝓤 (conj 𝓤 ((c 𝓤 𝓛 mem run κs a).ensures g r (at_exit T κs a s)) ((c 𝓤 𝓛 mem run κs a).ensures g r' (at_exit T κs a s')))
       (fact 𝓤 (◌≡◌ {A = B κs × Lasts T κs a} (told κs r, s) (told κs r', s')))
 
   -- the whole answer

@@ -1,1 +1,2 @@
 // No code: what it is that a contract decides the outcome of a call.
+#![tactic(auto)]

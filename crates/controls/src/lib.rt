@@ -1,4 +1,6 @@
 // Directions and keys, as both games take them.
+#![tactic(auto)]
+
 pub const UP: u8 = 0;
 
 pub const RIGHT: u8 = 1;

@@ -1,5 +1,2 @@
-pub mod Asked
-pub mod AskedCode
 pub mod First
-pub mod Part
 pub mod Scan

@@ -1,15 +1,17 @@
 // The answer to 'who is there': the index of the first and how many there are, or nobody.
+#![tactic(auto)]
+
 ghost use Rattle.std.specs.Prelude.{◌≡◌};
 ghost use Rattle.found.specs.CodeTally.{Countable, counted, told_of};
 
-#[derive(Drop)]
+#[derive(Clone, Copy)]
 pub enum Found {
     At(usize, usize),
     Nobody,
 }
 
 // What a scan has met so far: how many, and how many were looked at before the first of them; all, where none.
-#[derive(Drop)]
+#[derive(Clone, Copy)]
 pub struct Tally {
     pub first: usize,
     pub number: usize,

@@ -1,6 +1,6 @@
 -- Drawing on a frame byte by byte, said of its pixels. Assumes nothing.
 use mathlib.Core.Path.{◌≡◌, refl, sym, ap, ap₂, ◌∙◌}
-use mathlib.Core.Bool.{Bool, true, false, ◌||◌, ◌&&◌, not, xor, or_assoc, or_false, and-or_distrib_left}
+use mathlib.Core.Bool.{Bool, true, false, ◌||◌, ◌&&◌, not, xor, or_assoc, or-false, and-or_distrib_left}
 use mathlib.Core.List.{List}
 use mathlib.Core.Logic.{◌⊎◌, inl, inr}
 use Prim.Native.Nat.{ℕ, ◌+◌, ◌-◌, ◌*◌, ◌/◌, ◌%◌, ◌≤◌, ◌<◌}
@@ -90,8 +90,8 @@ part_all o true t e = rw e
 part_all o false t e = refl
 
 part_none : (o w t : Bool) → t ≡ false → o ≡ (o || (w && t))
-part_none o true t e = rw e (sym (or_false o))
-part_none o false t e = sym (or_false o)
+part_none o true t e = rw e (sym (or-false o))
+part_none o false t e = sym (or-false o)
 
 module _ (old w : ℕ → ℕ → Bool) (n : ℕ → ℕ → ℕ) where
   abbrev pub parts : ℕ → ℕ → ℕ → Bool

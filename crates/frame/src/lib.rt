@@ -1,4 +1,6 @@
 // The frame: eight pages of 128 bytes.
+#![tactic(auto)]
+
 ghost use Rattle.std.specs.Prelude.{◌≡◌};
 ghost use Rattle.frame.specs.Frame.{page_of};
 

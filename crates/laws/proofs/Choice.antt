@@ -1,5 +1,5 @@
 -- Choice by a test, cases of an order and an equation, and what `&&` and `||` tell of their parts. Assumes nothing.
-use mathlib.Core.Bool.{Bool, true, false, cond, not, ◌&&◌, ◌||◌, and_false, true≢false, false≢true}
+use mathlib.Core.Bool.{Bool, true, false, cond, not, ◌&&◌, ◌||◌, and-false, true≢false, false≢true}
 use mathlib.Core.Logic.{◌⊎◌, inl, inr, ⊎_elim}
 use mathlib.Core.Path.{◌≡◌, refl}
 use Prim.Native.Nat.{ℕ, ◌≤◌, ◌<◌}
@@ -77,7 +77,7 @@ larger_leb m k n = go (ltb m k) refl
     go : (b : Bool) → ltb m k ≡ b → leb (cond b k m) n ≡ (leb m n && leb k n)
     go true e =
         ⊎_elim (λ (h : leb k n ≡ true). simp (h, le-leb m n (omega (arith, ltb-true m k e, leb-true k n h))))
-        (λ (h : leb k n ≡ false). simp (h, and_false)) (bool_cases (leb k n))
+        (λ (h : leb k n ≡ false). simp (h, and-false)) (bool_cases (leb k n))
     go false e =
         ⊎_elim (λ (h : leb m n ≡ true). simp (h, le-leb k n (omega (arith, ltb-false m k e, leb-true m n h))))
         (λ (h : leb m n ≡ false). simp h) (bool_cases (leb m n))

@@ -1,5 +1,5 @@
 -- Lists from an index on, and the turns of a loop that tests, counts or rewrites each element. Assumes nothing.
-use mathlib.Core.Bool.{Bool, true, false, cond, ◌&&◌, ◌||◌, not, and_assoc, or_assoc, or_false, or-true}
+use mathlib.Core.Bool.{Bool, true, false, ◌&&◌, ◌||◌, not, and_assoc, or_assoc, or-false, or-true}
 use mathlib.Core.List.{List, [], ◌∷◌, ◌++◌, map, append-nil}
 use mathlib.Core.Path.{◌≡◌, refl, ap, sym, ◌∙◌}
 use Prim.Native.Nat.{ℕ, zero, suc, ◌+◌, ◌-◌, ◌<◌, ◌≤◌}
@@ -164,7 +164,7 @@ module _ {A : Type 0} (f : A → Bool) where
   pub any-take : (l : List A) (i : ℕ) (d : A) → i < length l → any f (take (i + 1) l) ≡ (any f (take i l) || f (get_or l i d))
   any-take l i d h =
       rw (add-one, take-suc l i d h, any_append (take i l) (get_or l i d ∷ []))
-      (ap (λ (b : Bool). any f (take i l) || b) (or_false (f (get_or l i d))))
+      (ap (λ (b : Bool). any f (take i l) || b) (or-false (f (get_or l i d))))
 
 -- what holds of each element, where a weaker test is asked
 pub all_weaken : {A : Type 0} (f g : A → Bool) → ((x : A) → f x ≡ true → g x ≡ true) → (l : List A) → all f l ≡ true → all g l ≡ true

@@ -2,18 +2,20 @@
 use Prim.Native.Nat.{ℕ}
 use mathlib.Core.List.{List, [], ◌∷◌}
 use seplogic.Ra.Ura.{Ura}
-use seplogic.Ra.TreeShare.{full_share}
+use base.Fraction.{full_share}
 use mir.Syntax.{Lifetime}
 use mir.Val.{Val}
-use base.Logic.{ent, sep, ex, guard}
-use base.Fml.{Lft, GName, Fml, fsep, fat, fdead, flent, fres}
-use types.Logic.{Logic, sem}
+use base.Logic.{ent, sep, ex, guard, via, mono_l}
+use base.Fml.{Incl, Lft, GName, Fml, fsep, fat, fdead, flent, fres}
+use types.Logic.{Logic, sem, lfts}
+use ghost.Rules.{Toks, span}
+use denote.Shares.{SharesFrom}
 use types.Kit.{‵, later, ◌$◌, ◌∵◌, !, qed, by, move, keep, use1, use3, fsplit, fjoin, fpick, fpack, check, await, updating, now as at_once, done}
 use types.Tokens.{lent_back}
 use types.SemTy.{Body}
 use denote.Laws.{Is, shows}
 use denote.RattleType.{RattleType}
-use denote.Memory.{cell_at, mem, part_at, part_of}
+use denote.Memory.{shared_of, cell_at, mem, part_at, part_of}
 use denote.Lend.{LentRef, lends_ref, ref_back, LentShr, lends_shr}
 use denote.Steps.{owned, peeks}
 use denote.Struct.Declared.{Declared, fields, shape, row}
@@ -53,7 +55,7 @@ module _ (S : Lendable) where
     stored is =
         qed 𝓛 (‵ (Here x b) ∷ []) ∵ use1 𝓛 (‵ (cell_at full_share R.mir (val x ∷ []) b 0)) (𝓛.laws.at_raw full_share (layout (shape S.ty)) b 0 (val x)) $
         owned ! R (Is R) (LL.makes S.ty S.plain 𝓛) x _ is $ move ! (1 ∷ 0 ∷ []) $ fjoin ! $
-        fpack ! (List Val) (λ vs. fsep (cell_at full_share R.mir vs b 0) (R.own x vs)) (val x ∷ []) $ done !
+        fpack ! (List Val) (λ vs. fsep (cell_at full_share R.mir vs b 0) (R.own_val x vs)) (val x ∷ []) $ done !
 
     loaded : ent 𝓤 (sem 𝓛 ((mem R).own_at x b 0)) (guard 𝓤 (Made x) (sem 𝓛 (Here x b)))
     unfolding part_of
@@ -73,8 +75,9 @@ module _ (S : Lendable) where
         use3 𝓛 (later (‵ ((mem R).own_at x b 0))) (ref_back 𝓛 R κ γ x b 0) $ await ! tt $ at_once ! $ by ! loaded
 
     -- the same by `&`
-    pub shares : (ℓ : Lifetime) → Made x → ent 𝓤 (sem 𝓛 (Here x b)) (H.⇛ (ex 𝓤 (LentShr 𝓛 R ℓ κ full_share x b 0)))
-    shares ℓ is = qed 𝓛 (‵ (Here x b) ∷ []) ∵ use1 𝓛 (‵ ((mem R).own_at x b 0)) (stored is) $ by ! (lends_shr 𝓛 R ℓ κ full_share x b 0)
+    pub shares : (ℓ : Lifetime) → Made x → (l : Lft) → SharesFrom 𝓛 full_share R x (shared_of R x) l → (ts : Toks) → Incl (span ts) l → Incl (span ts) κ
+        → ent 𝓤 (sep 𝓤 (sem 𝓛 (Here x b)) (lfts 𝓛 ts)) (H.⇛ (sep 𝓤 (LentShr 𝓛 R ℓ κ full_share x b 0) (lfts 𝓛 ts)))
+    shares ℓ is l from ts inner outer = via 𝓤 _ (mono_l 𝓤 (lfts 𝓛 ts) (stored is)) (lends_shr 𝓛 R ℓ κ full_share x b 0 l from ts inner outer)
 
     pub shared_back : ent 𝓤 (sep 𝓤 (A.dead κ) (A.lent κ (part_at R full_share x b 0))) (H.⇛ (guard 𝓤 (Made x) (sem 𝓛 (Here x b))))
     shared_back = qed 𝓛 (‵ (fdead κ) ∷ ‵ (flent κ (part_at R full_share x b 0)) ∷ []) ∵ updating ! $ lent_back ! tt $ at_once ! $ by ! loaded

@@ -1,16 +1,18 @@
 // The pacing record: two clock marks, and which ticks a reading makes due.
+#![tactic(auto)]
+
 ghost use Rattle.std.specs.Prelude.{◌≡◌};
 ghost use Rattle.pace.specs.Pace.{started, due_at, mark_after, both_ticks};
 
 #[repr(C)]
-#[derive(Drop)]
+#[derive(Clone, Copy)]
 pub struct Pace {
     pub first: u32,
     pub second: u32,
 }
 
 // Which of two ticks are due, and both marks after.
-#[derive(Drop)]
+#[derive(Clone, Copy)]
 pub struct Ticks {
     pub one: bool,
     pub two: bool,

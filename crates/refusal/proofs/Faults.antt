@@ -1,5 +1,5 @@
 -- The first fault over a list: where there is none, which one it is, and a turn of a loop that looks for it. Assumes nothing.
-use mathlib.Core.Bool.{Bool, true, false, ◌&&◌, and_assoc, and_true, and_false, true≢false}
+use mathlib.Core.Bool.{Bool, true, false, ◌&&◌, and_assoc, and-true, and-false, true≢false}
 use mathlib.Core.List.{List, [], ◌∷◌}
 use mathlib.Core.Logic.{⊎_elim}
 use mathlib.Core.Path.{◌≡◌, refl, sym, ap, ap₂, ◌∙◌, subst}
@@ -43,7 +43,7 @@ module _ {A : Type 0} (fault : ℕ → A → Refusal) where
   clear-more [] i k d h = absurd (not-suc-le-zero h)
   clear-more (a ∷ l) i zero d h =
       let q : i ≡ i + 0 = omega arith in
-      clear_then (fault i a) NONE ∙ and_true (clear (fault i a)) ∙ ap (λ (n : ℕ). clear (fault n a)) q
+      clear_then (fault i a) NONE ∙ and-true (clear (fault i a)) ∙ ap (λ (n : ℕ). clear (fault n a)) q
   clear-more (a ∷ l) i (suc k) d h =
       let q : i + 1 + k ≡ i + suc k = omega arith in
       rw (
@@ -142,7 +142,7 @@ module _ {A : Type 0} (most : ℕ) (fault : ℕ → A → Refusal) (blank : A �
   -- Code that looks for it in that order: where it stops.
   pub in_many : most < n → TOO_MANY ≡ fault_in most fault blank slots n
   unfolding fault_in
-  in_many h = rw (lt-leb n most h, and_false)
+  in_many h = rw (lt-leb n most h, and-false)
 
   module _ (full : length slots ≡ most) (few : n ≤ most) {r : Refusal} (e : r ≡ first_fault fault 0 (take n slots)) where
     pub in_creature : (r.number ≡ 0 → ⊥) → r ≡ fault_in most fault blank slots n

@@ -1,6 +1,8 @@
 // Refusals: the number that documents 01 and 02 give a bad input, and its place. A call that is not refused has NONE.
+#![tactic(auto)]
+
 #[repr(C)]
-#[derive(Drop)]
+#[derive(Clone, Copy)]
 pub struct Refusal {
     pub number: u8,
     // The index of a creature or a slot; 0 where a number has no place.

@@ -1,14 +1,14 @@
 -- A number's digits as `io` writes them are its decimal. Assumes nothing.
-use mathlib.Core.List.{List, [], ◌∷◌, ◌++◌}
-use mathlib.Core.Path.{◌≡◌, refl, sym, ap, ◌∙◌}
-use Prim.Native.Nat.{ℕ, zero, suc, ◌+◌, ◌-◌, ◌/◌, ◌%◌, ◌^◌, ◌≤◌, ◌<◌}
+use mathlib.Core.List.{List}
+use mathlib.Core.Path.{◌≡◌}
+use Prim.Native.Nat.{ℕ, zero, suc, ◌-◌, ◌/◌, ◌%◌, ◌^◌, ◌≤◌, ◌<◌}
 use native.Mathlib.Omega.{arith}
 use borrow.Author.Tests.{lt-ltb, le-ltb}
 use lib.Dec.{ltb}
 use lib.ListN.{length, length-append}
 use Rattle.laws.proofs.Choice.{cond_both}
 use Rattle.io.specs.Digits.{last_digits, IsDigitCount, hex_digit_ascii}
-use Rattle.text.specs.Text.{DIGITS, digit, decimal_in, decimal}
+use Rattle.text.specs.Text.{digit, decimal_in, decimal}
 
 glyph_digit : (n : ℕ) → n < 10 → hex_digit_ascii n ≡ digit n
 glyph_digit n h = rw (lt-ltb n 10 h)

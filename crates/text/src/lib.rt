@@ -1,4 +1,6 @@
 // A program's line as bytes: numbers with one space between, or a refusal.
+#![tactic(auto)]
+
 ghost use Rattle.std.specs.Prelude.{◌+◌, ◌≤◌, ◌≡◌, length};
 ghost use Rattle.text.specs.Text.{DIGITS, LINE, PLACED, decimal, numbers_line, place_line, refused_line, line_of};
 ghost use Rattle.text.specs.CodePuts.{Puts};
@@ -15,7 +17,7 @@ pub const DIGITS: usize = 20;
 pub const LINE: usize = NUMBERS * (DIGITS + 1);
 
 // What a program says to a byte.
-#[derive(Drop)]
+#[derive(Clone, Copy)]
 pub enum Says {
     Nothing,
     Numbers,
