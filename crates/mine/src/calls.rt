@@ -9,7 +9,7 @@ use mine_state::Mine;
 use refusal::Refusal;
 
 #[repr(C)]
-#[derive(Drop)]
+#[derive(Clone, Copy)]
 pub struct MineAnswer {
     pub refusal: Refusal,
     pub game: Mine,

@@ -1,4 +1,6 @@
 // Block Mine: the public calls.
+#![tactic(auto)]
+
 mod calls;
 mod picture;
 mod question;

@@ -1,4 +1,6 @@
 // Block Mine's creatures taken apart into places and directions, which are lent where creatures are not, and who stands where by them.
+#![tactic(auto)]
+
 ghost use Rattle.std.specs.Prelude.{cond, ◌≡◌, length, drop};
 ghost use Rattle.laws.specs.Lists.{any, count};
 ghost use Rattle.mine_state.specs.State.{AREA, MAX_ENEMIES};
@@ -11,7 +13,7 @@ use mine_state::{AREA, EMPTY, Enemy, H, MAX_ENEMIES, W};
 pub const NOWHERE: u16 = 336;
 
 // The creatures' places and directions.
-#[derive(Drop)]
+#[derive(Clone, Copy)]
 pub struct Parts {
     pub spots: [u16; MAX_ENEMIES],
     pub dirs: [u8; MAX_ENEMIES],

@@ -1,5 +1,5 @@
 -- The largest code tells whether all are codes. Assumes nothing.
-use mathlib.Core.Bool.{Bool, cond, ◌&&◌, and_true, and_assoc}
+use mathlib.Core.Bool.{Bool, cond, ◌&&◌, and-true, and_assoc}
 use mathlib.Core.List.{List, [], ◌∷◌}
 use mathlib.Core.Path.{◌≡◌, sym, ◌∙◌}
 use Prim.Native.Nat.{ℕ, ◌+◌}
@@ -17,4 +17,4 @@ module _ (l : List ℕ) (i m : ℕ) {R : Bool} (e : (is_code m && all is_code (d
       rw (larger_leb m k EXIT) (and_assoc (is_code m) (is_code k) (all is_code (drop (i + 1) l)) ∙ q)
 
   pub code_end : drop i l ≡ [] → is_code m ≡ R
-  code_end h = sym (and_true (is_code m)) ∙ (rw h at e)
+  code_end h = sym (and-true (is_code m)) ∙ (rw h at e)

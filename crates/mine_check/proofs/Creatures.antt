@@ -1,7 +1,7 @@
 -- A loop over the creatures: each right by itself, and no later one on its cell. Assumes nothing.
-use mathlib.Core.Bool.{Bool, true, false, ◌&&◌, and_false}
+use mathlib.Core.Bool.{Bool, true, false, ◌&&◌, and-false}
 use mathlib.Core.List.{List, [], ◌∷◌}
-use mathlib.Core.Path.{◌≡◌, refl}
+use mathlib.Core.Path.{◌≡◌}
 use Prim.Native.Nat.{ℕ, ◌+◌}
 use lib.ListN.{drop}
 use Rattle.laws.specs.Lists.{all, any}
@@ -24,7 +24,7 @@ module _ (g : List ℕ) (l : List Enemy) (i : ℕ) {R : Bool} (q : right g (drop
     right_fails t = rw (h, t) at q
 
     pub right-meets : any (stands_at e.x e.y) (drop (i + 1) l) ≡ true → false ≡ R
-    right-meets u = rw (h, u, and_false) at q
+    right-meets u = rw (h, u, and-false) at q
 
 -- the parts of the answer, in its order
 pub answer : (a b c d : Bool) {p : Bool} → a ≡ true → p ≡ (b && c) → (p && d) ≡ (a && b && c && d)

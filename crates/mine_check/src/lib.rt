@@ -1,4 +1,6 @@
 // Block Mine: the check of a state that a caller hands in: what document 01 calls bad gets its number.
+#![tactic(auto)]
+
 mod cause;
 
 ghost use Rattle.std.specs.Prelude.{◌&&◌, cond, ◌≡◌, ◌≤◌, ◌+◌, leb, ltb, length, take, drop};

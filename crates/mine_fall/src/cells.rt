@@ -12,7 +12,7 @@ use mine_apart::{enemy_at, free};
 use mine_state::{AREA, BOULDER, COIN, EMPTY, H, MAX_ENEMIES, W};
 
 // What an object did, beside moving.
-#[derive(Drop)]
+#[derive(Clone, Copy)]
 pub enum Fell {
     Quiet,
     Collected,

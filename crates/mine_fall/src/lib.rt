@@ -2,6 +2,8 @@
 //
 // The grid and the marks are lent to what happens at a cell. Where the creatures and the player stand
 // is told by their places, numbers that are lent too; what a fall does beside moving comes back as a `Fell`.
+#![tactic(auto)]
+
 mod cells;
 
 ghost use Rattle.std.specs.Prelude.{◌≡◌};
@@ -16,7 +18,7 @@ use mine_state::{AREA, H, MAX_ENEMIES, Mine, W};
 
 // What a tick changes beside the lent arrays.
 #[repr(C)]
-#[derive(Drop)]
+#[derive(Clone, Copy)]
 pub struct Fallen {
     pub count: usize,
     pub coins: u32,

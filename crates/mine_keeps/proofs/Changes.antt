@@ -4,25 +4,22 @@ use mathlib.Core.List.{List}
 use mathlib.Core.Path.{◌≡◌, refl, sym, ◌∙◌, ap}
 use Prim.Native.Nat.{ℕ, ◌+◌, ◌-◌, ◌<◌, ◌≤◌}
 use native.Mathlib.Omega.{arith}
-use lib.Dec.{eqb, leb, ltb}
 use lib.ListN.{length, get_or, set, take, drop, length-set}
 use lib.Seq.{take-set-lt, drop-set-lt}
-use borrow.Author.Tests.{eqb-true, lt-ltb, not-true}
-use Rattle.laws.specs.Lists.{all, any, count, bit}
+use borrow.Author.Tests.{eqb-true, not-true}
+use Rattle.laws.specs.Lists.{all, any, count}
 use Rattle.laws.proofs.Lists.{all_at, all_set}
 use Rattle.laws.proofs.Choice.{and_left, and_right}
 use Rattle.laws.proofs.Counts.{count-clear}
 use Rattle.found.specs.First.{nobody}
-use Rattle.found.specs.declared.Found.TheVariants.{At}
 use Rattle.found.proofs.First.{nobody-any}
 use Rattle.mine_state.specs.declared.Mine.{Mine}
 use Rattle.mine_state.specs.declared.Enemy.{Enemy}
-use Rattle.mine_state.specs.State.{AREA, MAX_ENEMIES, EMPTY, COIN, is_code, is_coin, is_boulder, place, code_in, code_at, empty_at, player_at, creatures}
+use Rattle.mine_state.specs.State.{AREA, MAX_ENEMIES, EMPTY, COIN, is_code, is_coin, is_boulder, place, code_at, empty_at, player_at, creatures}
 use Rattle.mine_state.specs.State.{stands_at, first_at, free_at, purse, boulders}
 use Rattle.mine_state.specs.Change.{with_grid, with_marks, with_player, with_creatures, with_creature, with_coins, killed, winner, with_cell}
 use Rattle.mine_state.specs.WellFormed.{WellFormed, creature_ok, apart, is_blank}
-use Rattle.mine_state.proofs.Cells.{free_inside, free_empty, free_is_empty}
-use Rattle.mine_state.proofs.Creatures.{found_below}
+use Rattle.mine_state.proofs.Cells.{free_inside, free_empty}
 use Rattle.mine_rules.specs.Gravity.{without}
 use Rattle.mine_keeps.specs.Kept.{Kept}
 use Rattle.mine_keeps.proofs.Creatures.{apart-set}

@@ -1,11 +1,9 @@
 -- A gravity tick keeps a state well formed, its coins and its boulders. Assumes nothing.
-use mathlib.Core.Bool.{Bool, true, false, ◌&&◌, not}
-use mathlib.Core.Path.{◌≡◌, refl, ◌∙◌, ap}
-use Prim.Native.Nat.{ℕ, ◌+◌, ◌-◌, ◌≤◌}
+use mathlib.Core.Bool.{true, false, not}
+use mathlib.Core.Path.{◌≡◌, ◌∙◌, ap}
+use Prim.Native.Nat.{ℕ, ◌+◌, ◌≤◌}
 use native.Mathlib.Omega.{arith}
 use lib.ListN.{length, set, length-set}
-use Rattle.laws.specs.Lists.{any}
-use Rattle.found.specs.First.{nobody}
 use Rattle.found.specs.declared.Found.TheVariants.{At}
 use Rattle.found.proofs.First.{nobody-any}
 use Rattle.mine_state.specs.declared.Mine.{Mine}

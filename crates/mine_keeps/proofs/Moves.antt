@@ -12,17 +12,16 @@ use Rattle.found.specs.declared.Found.{Found}
 use Rattle.found.specs.declared.Found.TheVariants.{At, Nobody}
 use Rattle.mine_state.specs.declared.Mine.{Mine}
 use Rattle.mine_state.specs.State.{W, H, EMPTY, DIRT, WALL, BOULDER, COIN, EXIT, is_coin, is_boulder, place, code_at, empty_at, first_at, free_at}
-use Rattle.mine_state.specs.Change.{entered, with_cell, with_coins, with_grid}
+use Rattle.mine_state.specs.Change.{entered, with_grid}
 use Rattle.mine_state.specs.WellFormed.{WellFormed}
 use Rattle.mine_state.proofs.Facts.{sound}
 use Rattle.mine_rules.specs.declared.Ahead.{Ahead}
 use Rattle.mine_rules.specs.declared.Ahead.TheVariants.{Cell, Off}
 use Rattle.mine_rules.specs.Ways.{next_cell}
-use Rattle.mine_rules.specs.Move.{at_exit, collected, pushed_to, pushed, sideways, met, meets, moved_to, moved}
+use Rattle.mine_rules.specs.Move.{collected, pushed_to, pushed, sideways, met, meets, moved_to, moved}
 use Rattle.mine_rules.proofs.Next.{next-inside, home}
 use Rattle.mine_keeps.specs.Kept.{Kept}
 use Rattle.mine_keeps.proofs.Changes.{kept_self, kept-killed, kept_won, kept-player, kept_dug, kept-collected, kept_shifted}
-use Rattle.mine_keeps.proofs.Grid.{shifted_to}
 
 -- the cell that was emptied is empty
 emptied : (l : List ℕ) (i : ℕ) → get_or (set l i EMPTY) i EMPTY ≡ EMPTY

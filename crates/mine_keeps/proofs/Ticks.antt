@@ -1,13 +1,13 @@
 -- A creature tick keeps a state well formed, its coins and its boulders. Assumes nothing.
-use mathlib.Core.Bool.{Bool, true, false, cond, ◌&&◌, not}
+use mathlib.Core.Bool.{true, false, ◌&&◌}
 use mathlib.Core.List.{List, [], ◌∷◌}
-use mathlib.Core.Path.{◌≡◌, refl, sym, ◌∙◌, ap}
+use mathlib.Core.Path.{◌≡◌, refl, sym, ◌∙◌}
 use Prim.Native.Nat.{ℕ, ◌+◌, ◌%◌, ◌<◌}
 use native.Mathlib.Omega.{arith}
 use lib.Dec.{leb}
 use lib.ListN.{get_or}
 use borrow.Author.Tests.{le-leb, not-true}
-use Rattle.laws.specs.Lists.{any, across}
+use Rattle.laws.specs.Lists.{any}
 use Rattle.laws.proofs.Choice.{cond_both, and_left, and_right, and_both}
 use Rattle.laws.proofs.Folds.{across-keeps}
 use Rattle.found.specs.First.{nobody}
@@ -15,14 +15,14 @@ use Rattle.found.proofs.First.{nobody-any}
 use Rattle.mine_state.specs.declared.Mine.{Mine}
 use Rattle.mine_state.specs.declared.Enemy.{Enemy}
 use Rattle.mine_state.specs.State.{empty_at, player_at, creatures, stands_at, first_at, blank_slot}
-use Rattle.mine_state.specs.Change.{with_creature, killed}
+use Rattle.mine_state.specs.Change.{with_creature}
 use Rattle.mine_state.specs.WellFormed.{WellFormed, creature_ok}
 use Rattle.mine_rules.specs.declared.Ahead.{Ahead}
 use Rattle.mine_rules.specs.declared.Ahead.TheVariants.{Cell, Off}
 use Rattle.mine_rules.specs.declared.Step.{Step}
 use Rattle.mine_rules.specs.declared.Step.TheVariants.{Goes, Stays}
 use Rattle.mine_rules.specs.Ways.{next_cell}
-use Rattle.mine_rules.specs.Tick.{goes_to, way_of, turns, or_else, chosen, caught, creature_stepped, tick_one, enemies_moved}
+use Rattle.mine_rules.specs.Tick.{goes_to, way_of, turns, or_else, chosen, creature_stepped, tick_one, enemies_moved}
 use Rattle.mine_keeps.specs.Kept.{Kept}
 use Rattle.mine_keeps.proofs.Changes.{kept_self, kept-killed, kept-creature}
 

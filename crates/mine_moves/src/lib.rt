@@ -1,4 +1,6 @@
 // Block Mine: load, move and creature tick, on well-formed states.
+#![tactic(auto)]
+
 mod level;
 mod moves;
 mod ticks;

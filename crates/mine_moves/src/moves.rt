@@ -15,7 +15,7 @@ use mine_state::{AREA, BOULDER, COIN, DIRT, EMPTY, EXIT, MAX_ENEMIES, Mine, W, W
 
 // The player's part of a state.
 #[repr(C)]
-#[derive(Drop)]
+#[derive(Clone, Copy)]
 pub struct Player {
     pub px: usize,
     pub py: usize,
@@ -26,7 +26,7 @@ pub struct Player {
 }
 
 // The player after a move, and one cell with its code. The player's own cell is empty besides.
-#[derive(Drop)]
+#[derive(Clone, Copy)]
 pub struct Move {
     pub player: Player,
     pub at: usize,

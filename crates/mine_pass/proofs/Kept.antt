@@ -1,7 +1,6 @@
 -- A pass keeps a state well formed, its coins and its boulders. Assumes nothing.
-use mathlib.Core.Bool.{Bool, true, false, cond}
+use mathlib.Core.Bool.{Bool, cond}
 use mathlib.Core.List.{List}
-use mathlib.Core.Path.{◌≡◌}
 use Prim.Native.Nat.{ℕ}
 use Rattle.laws.proofs.Choice.{cond_both}
 use Rattle.mine_state.specs.declared.Mine.{Mine}

@@ -1,5 +1,5 @@
 -- Document 01, 'One pass, and the pacing record': one turn of Block Mine's loop, on the numbers of the record.
-use Rattle.std.specs.Prelude.{Bool, true, false, cond, List, [], ◌∷◌, ℕ, eqb}
+use Rattle.std.specs.Prelude.{cond, List, ℕ}
 use Rattle.refusal.specs.declared.Refusal.{Refusal}
 use Rattle.refusal.specs.Refusal.{NONE, refused_or}
 use Rattle.answer.specs.declared.Answer.{Answer}
@@ -13,7 +13,7 @@ use Rattle.mine_rules.specs.Move.{moved}
 use Rattle.mine_rules.specs.Tick as Tick
 use Rattle.mine_rules.specs.Gravity.{gravity_of}
 use Rattle.mine_pass.specs.declared.MineTurn.{MineTurn}
-use Rattle.controls.specs.Keys.{Played, keyed_by, played_by, UP, RIGHT, DOWN, LEFT}
+use Rattle.controls.specs.Keys.{Played, keyed_by, played_by}
 
 -- gravity 12,000,000, creatures 36,000,000
 abbrev pub GRAVITY_CYCLES : ℕ

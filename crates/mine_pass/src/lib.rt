@@ -1,5 +1,7 @@
 // One turn of Block Mine's loop, as definitions (specs/), their laws and what a turn keeps (proofs/); here the words that they share with the
 // code.
+#![tactic(auto)]
+
 use answer::Answer;
 use mine_state::Mine;
 use refusal::Refusal;
@@ -9,7 +11,7 @@ pub const GRAVITY_CYCLES: u32 = 12_000_000;
 
 pub const ENEMY_CYCLES: u32 = 36_000_000;
 
-#[derive(Drop)]
+#[derive(Clone, Copy)]
 pub struct MinePassed {
     pub refusal: Refusal,
     pub answer: Answer,
@@ -17,7 +19,7 @@ pub struct MinePassed {
 }
 
 // What a pass makes on numbers: the marks, and the rest.
-#[derive(Drop)]
+#[derive(Clone, Copy)]
 pub struct MineTurn {
     pub first: u32,
     pub second: u32,

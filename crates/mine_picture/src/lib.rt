@@ -1,1 +1,2 @@
 // Block Mine: which pixel of the picture is lit. Definitions; no code.
+#![tactic(auto)]

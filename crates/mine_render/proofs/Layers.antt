@@ -1,6 +1,6 @@
 -- The picture's layers, one drawn on the other. Assumes nothing.
 use mathlib.Core.Path.{◌≡◌, refl, sym, ap, ◌∙◌}
-use mathlib.Core.Bool.{Bool, true, false, ◌||◌, ◌&&◌, and_false, or_assoc, or_false, and-or_distrib_right}
+use mathlib.Core.Bool.{Bool, true, false, ◌||◌, ◌&&◌, and-false, or_assoc, or-false, and-or_distrib_right}
 use mathlib.Core.List.{List, []}
 use Prim.Native.Nat.{ℕ, ◌+◌, ◌-◌, ◌/◌, ◌%◌, ◌<◌}
 use lib.Dec.{leb}
@@ -34,11 +34,11 @@ tile_more old cx cy k g o frame cols e h =
 -- no creature, and one more
 layer : (p h s t r : Bool) → (p || (h && (s && r)) || (h && (t && r))) ≡ (p || (h && ((s || t) && r)))
 layer p true s t r = or_assoc p (s && r) (t && r) ∙ ap (λ (b : Bool). p || b) (sym (and-or_distrib_right s t r))
-layer p false s t r = or_false (p || false)
+layer p false s t r = or-false (p || false)
 
 module _ (frame₀ : List ℕ) (es : List Enemy) (cx cy : ℕ) where
   pub enemies_none : Framed frame₀ → frame₀ ≡ inked frame₀ (window cx cy (enemies_lit []))
-  enemies_none e = e ∙ pack_ext _ _ (λ x y hx hy. sym (ap (λ (b : Bool). pixel frame₀ x y || b) (and_false (leb 8 y)) ∙ or_false (pixel frame₀ x y)))
+  enemies_none e = e ∙ pack_ext _ _ (λ x y hx hy. sym (ap (λ (b : Bool). pixel frame₀ x y || b) (and-false (leb 8 y)) ∙ or-false (pixel frame₀ x y)))
 
   pub enemies_more : (i : ℕ) (d : Enemy) (frame : List ℕ) → i < length es →
       frame ≡ inked frame₀ (window cx cy (enemies_lit (take i es))) →

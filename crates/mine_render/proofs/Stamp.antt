@@ -1,6 +1,6 @@
 -- A tile's page bytes in the window: which pixels they light. Assumes nothing.
 use mathlib.Core.Path.{◌≡◌, refl, sym, ap, ◌∙◌}
-use mathlib.Core.Bool.{Bool, true, false, cond, ◌||◌, ◌&&◌, and_true, and_false, or_false}
+use mathlib.Core.Bool.{Bool, true, false, cond, ◌||◌, ◌&&◌, and-true, and-false, or-false}
 use mathlib.Core.List.{List}
 use mathlib.Core.Logic.{◌⊎◌, inl, inr}
 use Prim.Native.Nat.{ℕ, ◌+◌, ◌-◌, ◌*◌, ◌/◌, ◌%◌, ◌≤◌, ◌<◌}
@@ -74,14 +74,14 @@ module _ (col row gx : ℕ) (cols : List ℕ) (hc : col < 16) (hr : row < 7) (hg
           let s : (col * 8 + gx) % 8 ≡ gx = omega arith in
           let t : ((row + 1) * 8 + j) / 8 ≡ row + 1 = omega arith in
           let u : ((row + 1) * 8 + j) % 8 ≡ j = omega arith in
-          rw (p, q, r, s, t, u, eq-eqb col col refl, eq-eqb (row + 1) (row + 1) refl, eq-eqb gx gx refl) (sym (and_true (bit_at (get_or cols gx 0) j)))
+          rw (p, q, r, s, t, u, eq-eqb col col refl, eq-eqb (row + 1) (row + 1) refl, eq-eqb gx gx refl) (sym (and-true (bit_at (get_or cols gx 0) j)))
 
   column_off : (x y : ℕ) → x < 128 → y < 64 → (y / 8 * 128 + x ≡ (row + 1) * 128 + col * 8 + gx → ⊥) → (stamp_lit col row cols x y && eqb (x % 8) gx) ≡ false
   column_off x y hx hy n = go (same? (x % 8) gx)
     where
       go : (x % 8 ≡ gx) ⊎ (x % 8 ≡ gx → ⊥) → (stamp_lit col row cols x y && eqb (x % 8) gx) ≡ false
       go (inl a) = rw (stamp_off col row x y cols (λ b c. n (omega arith)))
-      go (inr a) = rw (ne_eqb (x % 8) gx a) (and_false (stamp_lit col row cols x y))
+      go (inr a) = rw (ne_eqb (x % 8) gx a) (and-false (stamp_lit col row cols x y))
 
   -- one more column of ink
   pub column_more : (old : ℕ → ℕ → Bool) (i : ℕ) → i ≡ (row + 1) * 128 + col * 8 + gx → get_or cols gx 0 < 256 →
@@ -89,7 +89,7 @@ module _ (col row gx : ℕ) (cols : List ℕ) (hc : col < 16) (hr : row < 7) (hg
       ≡ pack (parts old (stamp_lit col row cols) (λ x y. x % 8) (gx + 1))
   column_more old i e h =
       rw e
-      (draw_packed ◌||◌ bit_or (number_or 8) or_false _ _ _ (omega arith) (column_here h) column_off (parts old (stamp_lit col row cols) (λ x y. x % 8) gx)
+      (draw_packed ◌||◌ bit_or (number_or 8) or-false _ _ _ (omega arith) (column_here h) column_off (parts old (stamp_lit col row cols) (λ x y. x % 8) gx)
       ∙ parts_more old (stamp_lit col row cols) (λ x y. x % 8) gx)
 
 -- the window's tile k, counted row by row
@@ -128,10 +128,10 @@ module _ (cx cy x y : ℕ) (hx : x < 128) (hy : y < 64) where
           let q : (y - 8) % 8 ≡ y % 8 = omega arith in
           let r : x / 8 ≡ k % 16 = omega arith in
           stamp_on (k % 16) (k / 16) x y pat r (omega arith)
-          ∙ sym (rw (le-leb 8 y h, eq-eqb (tile_no x y) k e, p, q, r) (and_true (art_bit pat (x % 8) (y % 8))))
+          ∙ sym (rw (le-leb 8 y h, eq-eqb (tile_no x y) k e, p, q, r) (and-true (art_bit pat (x % 8) (y % 8))))
       go (inr h) (inr e) =
           stamp_off (k % 16) (k / 16) x y (columns_of pat) (λ d b. e (omega arith))
-          ∙ sym (rw (ne_eqb (tile_no x y) k e) (and_false (window cx cy (tile_lit g o) x y)))
+          ∙ sym (rw (ne_eqb (tile_no x y) k e) (and-false (window cx cy (tile_lit g o) x y)))
 
 pub stamp_sprites : (cx cy x₀ y₀ : ℕ) (pat frame cols : List ℕ) → cx ≤ x₀ → cy ≤ y₀ → cols ≡ columns_of pat
     → inked frame (stamp_lit (x₀ - cx) (y₀ - cy) cols) ≡ inked frame (window cx cy (sprite_lit x₀ y₀ pat))
@@ -142,10 +142,10 @@ stamp_sprites cx cy x₀ y₀ pat frame cols lx ly e =
 module _ (cx cy x y : ℕ) (pat frame : List ℕ) (e : Framed frame) where
   pub outside : ((a b : ℕ) → a < 128 → b < 64 → x ≡ cx + a / 8 → y ≡ cy + (b - 8) / 8 → ⊥) → frame ≡ inked frame (window cx cy (sprite_lit x y pat))
   outside n = e ∙ pack_ext _ _ (λ a b ha hb. sym
-      (ap (λ (t : Bool). pixel frame a b || t) (go a b (n a b ha hb) (same? x (cx + a / 8)) (same? y (cy + (b - 8) / 8))) ∙ or_false (pixel frame a b)))
+      (ap (λ (t : Bool). pixel frame a b || t) (go a b (n a b ha hb) (same? x (cx + a / 8)) (same? y (cy + (b - 8) / 8))) ∙ or-false (pixel frame a b)))
     where
       go : (a b : ℕ) → (x ≡ cx + a / 8 → y ≡ cy + (b - 8) / 8 → ⊥) → (x ≡ cx + a / 8) ⊎ (x ≡ cx + a / 8 → ⊥) → (y ≡ cy + (b - 8) / 8) ⊎ (y ≡ cy + (b - 8) / 8 → ⊥)
           → window cx cy (sprite_lit x y pat) a b ≡ false
       go a b m (inl p) (inl q) = absurd (m p q)
-      go a b m (inl p) (inr q) = rw (eq-eqb x (cx + a / 8) p, ne_eqb y (cy + (b - 8) / 8) q) (and_false (leb 8 b))
-      go a b m (inr p) q = rw (ne_eqb x (cx + a / 8) p) (and_false (leb 8 b))
+      go a b m (inl p) (inr q) = rw (eq-eqb x (cx + a / 8) p, ne_eqb y (cy + (b - 8) / 8) q) (and-false (leb 8 b))
+      go a b m (inr p) q = rw (ne_eqb x (cx + a / 8) p) (and-false (leb 8 b))

@@ -1,4 +1,6 @@
 // Block Mine: the picture, in a lent frame.
+#![tactic(auto)]
+
 ghost use Rattle.std.specs.Prelude.{◌≡◌, length, take};
 ghost use Rattle.frame.specs.Frame.{FRAME_LEN, pack};
 ghost use Rattle.frame.specs.CodeDraw.{unlit, inked};
@@ -66,7 +68,7 @@ fn columns(pat: [u8; 8]) -> [u8; 8]
 }
 
 // The columns of each tile, turned once a frame.
-#[derive(Drop)]
+#[derive(Clone, Copy)]
 struct Tiles {
     dirt: [u8; 8],
     wall: [u8; 8],

@@ -1,4 +1,6 @@
 // Block Mine: the state.
+#![tactic(auto)]
+
 ghost use Rattle.std.specs.Prelude.{◌≡◌, ◌≤◌, length};
 ghost use Rattle.laws.specs.Lists.{count};
 ghost use Rattle.mine_state.specs.State.{AREA, code_in, is_coin, stands_at};
@@ -28,7 +30,7 @@ pub const EXIT: u8 = 5;
 
 // A creature, with the direction it last travelled (0 up, 1 right, 2 down, 3 left).
 #[repr(C)]
-#[derive(Drop)]
+#[derive(Clone, Copy)]
 pub struct Enemy {
     pub x: usize,
     pub y: usize,
@@ -36,7 +38,7 @@ pub struct Enemy {
 }
 
 #[repr(C)]
-#[derive(Drop)]
+#[derive(Clone, Copy)]
 pub struct Mine {
     pub grid: [u8; AREA],
     // Whether the object at a cell is mid-fall; only a falling object crushes.

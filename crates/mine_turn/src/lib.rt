@@ -1,4 +1,6 @@
 // One turn of Block Mine's loop: what is left of it when keys, clock and record are numbers.
+#![tactic(auto)]
+
 ghost use Rattle.std.specs.Prelude.{cond, ◌≡◌};
 ghost use Rattle.mine_state.specs.WellFormed.{WellFormed};
 ghost use Rattle.mine_rules.specs.Tick.{enemies_moved};
@@ -20,7 +22,7 @@ use pace::both_ticks;
 use refusal::Refusal;
 
 // The player's part after the keys, where the rest is lent, and whether one of them quit.
-#[derive(Drop)]
+#[derive(Clone, Copy)]
 pub struct Pressed {
     pub player: Player,
     pub quit: bool,

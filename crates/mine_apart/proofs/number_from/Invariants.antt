@@ -1,0 +1,13 @@
+use mathlib.Core.Path.{◌≡◌}
+use Prim.Native.Nat.{◌+◌, ◌-◌, ◌≤◌}
+use lib.ListN.{drop}
+use Rattle.laws.specs.Lists.{count}
+use Rattle.mine_state.specs.State.{MAX_ENEMIES}
+use Rattle.mine_apart.specs.CodeApart.{is_spot}
+use Rattle.mine_apart.proofs.number_from.Given as goal
+
+abbrev pub invariant-loop-i : goal.invariant-loop-i
+invariant-loop-i l = (l.n ≤ l.i) × (l.n + count (is_spot l.at) (drop l.i l.spots) ≡ count (is_spot l.at) (drop l.from l.spots))
+
+abbrev pub decreases-loop-i : goal.decreases-loop-i
+decreases-loop-i l = MAX_ENEMIES - l.i
