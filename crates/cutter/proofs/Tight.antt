@@ -30,49 +30,49 @@ use Rattle.cutter.specs.contracts.picture.render as render
 use Rattle.cutter.specs.contracts.question.who as who
 use Rattle.cutter.specs.contracts.question.who_of as who_of
 
-pub new_round_tight : {M : Type 1} → Decides M new-round.ended new-round.clauses
+pub new_round_tight : {M : Type 1} → Decides M new-round.ended (λ 𝓤 𝓛. new-round.clauses 𝓛)
 new_round_tight 𝓤 𝓛 mem run κs a g r r' s s' = decided 𝓤 (λ (z : CutterAnswer). (z, s)) r r' (round_call a.0.now)
 
-pub new_level_tight : {M : Type 1} → Decides M new-level.ended new-level.clauses
+pub new_level_tight : {M : Type 1} → Decides M new-level.ended (λ 𝓤 𝓛. new-level.clauses 𝓛)
 new_level_tight 𝓤 𝓛 mem run κs a g r r' s s' = decided 𝓤 (λ (z : CutterAnswer). (z, s)) r r' (level_call a.0 a.1.0.now)
 
-pub direction_tight : {M : Type 1} → Decides M direction.ended direction.clauses
+pub direction_tight : {M : Type 1} → Decides M direction.ended (λ 𝓤 𝓛. direction.clauses 𝓛)
 direction_tight 𝓤 𝓛 mem run κs a g r r' s s' = decided 𝓤 (λ (z : CutterAnswer). (z, s)) r r' (direction_call a.0 a.1.0)
 
-pub step_player_tight : {M : Type 1} → Decides M step-player.ended step-player.clauses
+pub step_player_tight : {M : Type 1} → Decides M step-player.ended (λ 𝓤 𝓛. step-player.clauses 𝓛)
 step_player_tight 𝓤 𝓛 mem run κs a g r r' s s' = decided 𝓤 (λ (z : CutterAnswer). (z, s)) r r' (step_call a.0)
 
-pub step_by_sweeps_tight : {M : Type 1} → Decides M step_by_sweeps.ended step_by_sweeps.clauses
+pub step_by_sweeps_tight : {M : Type 1} → Decides M step_by_sweeps.ended (λ 𝓤 𝓛. step_by_sweeps.clauses 𝓛)
 step_by_sweeps_tight 𝓤 𝓛 mem run κs a g r r' s s' = decided 𝓤 (λ (z : CutterAnswer). (z, s)) r r' (sweeps_call a.0)
 
-pub step_enemies_tight : {M : Type 1} → Decides M step_enemies.ended step_enemies.clauses
+pub step_enemies_tight : {M : Type 1} → Decides M step_enemies.ended (λ 𝓤 𝓛. step_enemies.clauses 𝓛)
 step_enemies_tight 𝓤 𝓛 mem run κs a g r r' s s' = decided 𝓤 (λ (z : CutterAnswer). (z, s)) r r' (enemies_call a.0)
 
-pub respawn_tight : {M : Type 1} → Decides M respawn.ended respawn.clauses
+pub respawn_tight : {M : Type 1} → Decides M respawn.ended (λ 𝓤 𝓛. respawn.clauses 𝓛)
 respawn_tight 𝓤 𝓛 mem run κs a g r r' s s' = decided 𝓤 (λ (z : CutterAnswer). (z, s)) r r' (respawn_call a.0)
 
-pub ground_report_tight : {M : Type 1} → Decides M ground_report.ended ground_report.clauses
+pub ground_report_tight : {M : Type 1} → Decides M ground_report.ended (λ 𝓤 𝓛. ground_report.clauses 𝓛)
 ground_report_tight 𝓤 𝓛 mem run κs a g r r' s s' = decided 𝓤 (λ (z : Ground). (z, s)) r r' (report_call a.0)
 
 -- the record stands in the fifth place
-pub pass_tight : {M : Type 1} → Decides M pass.ended pass.clauses
+pub pass_tight : {M : Type 1} → Decides M pass.ended (λ 𝓤 𝓛. pass.clauses 𝓛)
 pass_tight 𝓤 𝓛 mem run κs a g r r' s s' =
     decided 𝓤 (λ (z : CutterPassed × Pace). (z.0, (tt, (tt, (tt, (tt, (z.1, tt))))))) (r, s.1.1.1.1.0) (r', s'.1.1.1.1.0)
     (pass_of a.0 a.1.0.now a.1.1.0.now a.1.1.1.0 a.1.1.1.1.0.now)
 
-pub pass_marks_tight : {M : Type 1} → Decides M pass-marks.ended pass-marks.clauses
+pub pass_marks_tight : {M : Type 1} → Decides M pass-marks.ended (λ 𝓤 𝓛. pass-marks.clauses 𝓛)
 pass_marks_tight 𝓤 𝓛 mem run κs a g r r' s s' =
     decided 𝓤 (λ (z : CutterTurn). (z, s)) r r'
     (pass_at a.0 a.1.0.now a.1.1.0.now a.1.1.1.0 a.1.1.1.1.0 a.1.1.1.1.1.0)
 
 -- the frame stands in the second place
-pub render_tight : {M : Type 1} → Decides M render.ended render.clauses
+pub render_tight : {M : Type 1} → Decides M render.ended (λ 𝓤 𝓛. render.clauses 𝓛)
 render_tight 𝓤 𝓛 mem run κs a g r r' s s' =
     decided 𝓤 (λ (z : Refusal × List ℕ). (z.0, (tt, (z.1, tt)))) (r, s.1.0) (r', s'.1.0) (picture_of a.0 a.1.0.now)
 
-pub who_tight : {M : Type 1} → Decides M who.ended who.clauses
+pub who_tight : {M : Type 1} → Decides M who.ended (λ 𝓤 𝓛. who.clauses 𝓛)
 who_tight 𝓤 𝓛 mem run κs a g r r' s s' = decided 𝓤 (λ (z : Found). (z, s)) r r' (who_at a.0.now a.1.0 a.1.1.0)
 
-pub who_of_tight : {M : Type 1} → Decides M who_of.ended who_of.clauses
+pub who_of_tight : {M : Type 1} → Decides M who_of.ended (λ 𝓤 𝓛. who_of.clauses 𝓛)
 who_of_tight 𝓤 𝓛 mem run κs a g r r' s s' =
     decided 𝓤 (λ (z : Found). (z, s)) r r' (who_at (take a.1.0 a.0) a.1.1.0 a.1.1.1.0)

@@ -15,7 +15,7 @@ use refusal::Refusal;
 
 // The state afterwards, and how many cells were taken by the search of a closing and by the walk to the border.
 #[repr(C)]
-#[derive(Drop)]
+#[derive(Clone, Copy)]
 pub struct CutterAnswer {
     pub refusal: Refusal,
     pub game: Cutter,
@@ -25,7 +25,7 @@ pub struct CutterAnswer {
 
 // How much of the ground is black, claimed and line, and the percentage of it that is no longer black.
 #[repr(C)]
-#[derive(Drop)]
+#[derive(Clone, Copy)]
 pub struct Ground {
     pub refusal: Refusal,
     pub black: u16,

@@ -1,4 +1,6 @@
 // Block Cutter: the public calls.
+#![tactic(auto)]
+
 mod calls;
 mod picture;
 mod question;

@@ -1,9 +1,9 @@
 -- A visit of the code is a cell reached: the queue's front is the list of cells reached, and the marks tell which are in it. Assumes nothing.
-use mathlib.Core.Bool.{Bool, true, false, not, and_false, ◌||◌}
+use mathlib.Core.Bool.{Bool, true, false, not, and-false, ◌||◌}
 use mathlib.Core.List.{List, [], ◌∷◌, ◌++◌}
 use mathlib.Core.Logic.{inl, inr, ⊎_elim}
 use mathlib.Core.Path.{◌≡◌, refl, sym, ap, ap₂, subst, ◌∙◌}
-use Prim.Native.Nat.{ℕ, ◌+◌, ◌<◌}
+use Prim.Native.Nat.{ℕ, ◌<◌}
 use native.Mathlib.Numerals.{add-one}
 use native.Mathlib.Omega.{arith}
 use lib.Dec.{eqb, ltb}
@@ -54,7 +54,7 @@ module _ (g cells : List ℕ) (c : ℕ) where
 
   pub reach-old : among c cells ≡ true → reach g cells c ≡ cells
   unfolding reach
-  reach-old e = simp (e, and_false)
+  reach-old e = simp (e, and-false)
 
 -- a mark that is set
 abbrev pub marked : List ℕ → ℕ → Bool

@@ -1,21 +1,19 @@
 -- How many cells stand in a list without one twice, and the cells that a walk takes. Assumes nothing.
 use mathlib.Core.Bool.{Bool, true, false, not, or-true, true≢false}
 use mathlib.Core.List.{List, [], ◌∷◌, ◌++◌}
-use mathlib.Core.Logic.{⊎_elim}
 use mathlib.Core.Path.{◌≡◌, refl, sym, ap, subst, ◌∙◌}
 use Prim.Native.Nat.{ℕ, zero, suc, ◌+◌, ◌≤◌, ◌<◌}
 use native.Mathlib.Omega.{arith}
 use borrow.Author.Tests.{eq-eqb, ne_eqb, not-true}
 use lib.Dec.{eqb}
-use lib.ListN.{length, get_or, set, take, replicate, length-set, length-replicate}
+use lib.ListN.{length, set, take, replicate, length-set, length-replicate}
 use Rattle.laws.specs.Lists.{tally}
-use Rattle.laws.proofs.Choice.{bool_cases, and_left, and_right, and_both, or_cases, or_left, or_right}
+use Rattle.laws.proofs.Choice.{and_left, and_right, or_left, or_right}
 use Rattle.laws.proofs.Counts.{tally_le, tally_lose, tally-same}
 use Rattle.laws.proofs.Lists.{any_append, get_or_replicate_same_lem}
 use Rattle.cutter_ground.specs.Cells.{CN}
 use Rattle.cutter_ground.specs.CodeVisit.{SEEN}
 use Rattle.cutter_border.specs.Walks.{claimed_cell, Spelling, still, Walk, here, step}
-use Rattle.cutter_border.specs.Nearest.{First, Unreached}
 use Rattle.cutter_border.specs.Taken.{among, distinct, Each, NoLater, Takes, none, chosen, reached, WalkCost}
 use Rattle.cutter_border.proofs.Reaching.{claimed_in_lem, marked, marked-none, none-marked, mark_first}
 use Rattle.cutter_border.proofs.Spellings.{walk-claimed, first_spelt}

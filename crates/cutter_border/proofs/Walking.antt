@@ -17,7 +17,7 @@ use Rattle.cutter_ground.specs.CodeVisit.{SEEN, Around}
 use Rattle.cutter_border.specs.Taken.{among}
 use Rattle.cutter_border.specs.CodeBorder.{reach_around, walk, to_border}
 use Rattle.cutter_border.specs.CodeTables.{Cleared}
-use Rattle.cutter_border.proofs.Reaching.{marked, marked-none, Reached, mark_more, around_reaches}
+use Rattle.cutter_border.proofs.Reaching.{marked-none, Reached, mark_more, around_reaches}
 
 -- the walk at its i-th cell: it ends there, it goes on, or no cell is left
 module _ (g : List ℕ) (start : ℕ) (cells : List ℕ) (i : ℕ) where

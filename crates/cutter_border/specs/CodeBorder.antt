@@ -1,5 +1,5 @@
 -- The walk to the border as the code makes it, breadth first: a list of the cells reached, and a position in it. No promise cites it.
-use Rattle.std.specs.Prelude.{Bool, true, false, cond, ◌&&◌, not, List, [], ◌∷◌, ◌++◌, ℕ, zero, suc, ◌+◌, ltb, length, get_or}
+use Rattle.std.specs.Prelude.{true, false, cond, ◌&&◌, not, List, [], ◌∷◌, ◌++◌, ℕ, zero, suc, ◌+◌, ltb, length, get_or}
 use Rattle.cutter_ground.specs.Cells.{CN, left_of, right_of, up_of, down_of, on_border}
 use Rattle.cutter_border.specs.declared.Walked.{Walked}
 use Rattle.cutter_border.specs.Walks.{claimed_cell}

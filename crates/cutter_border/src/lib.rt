@@ -1,4 +1,6 @@
 // The walk to the border: from where the player stands, over claimed cells, to the nearest cell beside black.
+#![tactic(auto)]
+
 ghost use Rattle.std.specs.Prelude.{◌≡◌, [], ◌∷◌};
 ghost use Rattle.cutter_ground.specs.Cells.{CN};
 ghost use Rattle.cutter_border.specs.CodeBorder.{walk, to_border};
@@ -7,7 +9,7 @@ ghost use Rattle.cutter_border.specs.CodeTables.{Cleared, Standing};
 use cutter_ground::{CB_FILLED, CN, SEEN};
 
 // Where a walk ends, and how many cells it took, the last one included.
-#[derive(Drop)]
+#[derive(Clone, Copy)]
 pub struct Walked {
     pub at: usize,
     pub taken: usize,

@@ -39,9 +39,9 @@ bit-one : (b : Bool) → eqb (bit b) 1 ≡ b
 bit-one true = refl
 bit-one false = refl
 
-or_false : (b : Bool) → (b || false) ≡ b
-or_false true = refl
-or_false false = refl
+or-false : (b : Bool) → (b || false) ≡ b
+or-false true = refl
+or-false false = refl
 
 below_next : (x s : ℕ) → (x ≡ s → ⊥) → ltb x s ≡ ltb x (s + 1)
 below_next x s n =
@@ -375,7 +375,7 @@ module _ {g L : List ℕ} (R : Right g L) {limit : ℕ} {es : List Mover} {seen 
 
   module _ (none : rest limit L n s ≡ []) (all : n ≡ 0 → s ≡ CN) where
     is-counted : (c : ℕ) → ltb (get_or L c CN) s ≡ any (eqb (get_or L c CN)) (counted limit L)
-    is-counted c = sym (b.counts c ∙ ap (λ (r : List ℕ). ltb (get_or L c CN) s || any (eqb (get_or L c CN)) r) none ∙ or_false (ltb (get_or L c CN) s))
+    is-counted c = sym (b.counts c ∙ ap (λ (r : List ℕ). ltb (get_or L c CN) s || any (eqb (get_or L c CN)) r) none ∙ or-false (ltb (get_or L c CN) s))
 
     among : (x : Best limit L es q t l n s) → any (eqb x.w) (counted limit L) ≡ true
     among x =

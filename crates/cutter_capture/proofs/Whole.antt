@@ -1,6 +1,6 @@
 -- The steps together are the closing. Assumes nothing.
 use mathlib.Core.Path.{◌≡◌, refl, sym, ap, subst, ◌∙◌}
-use mathlib.Core.Bool.{Bool, true, false, not, cond, ◌&&◌}
+use mathlib.Core.Bool.{Bool, true, false, cond, ◌&&◌}
 use mathlib.Core.List.{List, zip_with}
 use mathlib.Core.Logic.{⊎_elim}
 use Prim.Native.Nat.{ℕ, ◌+◌, ◌-◌, ◌≤◌, ◌<◌}
@@ -32,13 +32,13 @@ use Rattle.cutter_capture.specs.CodeSteps.{KEPT, mark_of, keep_of, shut, Retaine
 use Rattle.cutter_capture.specs.CodeChoosing.{Nothing, Keeps, ChosenBy, Markable, Marked}
 use Rattle.cutter_ground.specs.Movers.{place_of}
 
-and_true : (b : Bool) → (b && true) ≡ b
-and_true true = refl
-and_true false = refl
+and-true : (b : Bool) → (b && true) ≡ b
+and-true true = refl
+and-true false = refl
 
-and_false : (b : Bool) → (b && false) ≡ false
-and_false true = refl
-and_false false = refl
+and-false : (b : Bool) → (b && false) ≡ false
+and-false true = refl
+and-false false = refl
 
 bit-seen : (b : Bool) → eqb (bit b) SEEN ≡ b
 bit-seen true = refl
@@ -72,7 +72,7 @@ module _ {g L : List ℕ} (R : Right g L) {limit : ℕ} {es : List Mover} {seen 
   bits : (x w : ℕ) → any (eqb w) (counted limit L) ≡ true → bit (any (eqb x) (counted limit L)) ≡ bit (is_taken (counted limit L) w x) + bit (eqb x w)
   bits x w t =
       ⊎_elim (λ e. let y : any (eqb x) (counted limit L) ≡ true = subst (λ (v : ℕ). any (eqb v) (counted limit L) ≡ true) (sym e) t in rw (y, eq-eqb x w e))
-      (λ n. rw (ne_eqb x w n, and_true (any (eqb x) (counted limit L))) (omega arith)) (same? x w)
+      (λ n. rw (ne_eqb x w n, and-true (any (eqb x) (counted limit L))) (omega arith)) (same? x w)
 
   pub claimed-is : taken ≡ taken_in limit L es + (b - a)
   unfolding tally
@@ -115,9 +115,9 @@ module _ {g L : List ℕ} (R : Right g L) {limit : ℕ} {es : List Mover} {seen 
         some : Keeps limit L es q a b → eqb (get_or seen' c 0) SEEN ≡ is_taken (counted limit L) (kept limit L es) (get_or L c CN)
         some x =
             ⊎_elim
-            (λ e. rw (in_kept x c e, eq-eqb (get_or L c CN) (kept limit L es) e) (sym (and_false (any (eqb (get_or L c CN)) (counted limit L)))))
+            (λ e. rw (in_kept x c e, eq-eqb (get_or L c CN) (kept limit L es) e) (sym (and-false (any (eqb (get_or L c CN)) (counted limit L)))))
             (λ n. rw (elsewhere x c n, ne_eqb (get_or L c CN) (kept limit L es) n)
-            (bit-seen (any (eqb (get_or L c CN)) (counted limit L)) ∙ sym (and_true (any (eqb (get_or L c CN)) (counted limit L)))))
+            (bit-seen (any (eqb (get_or L c CN)) (counted limit L)) ∙ sym (and-true (any (eqb (get_or L c CN)) (counted limit L)))))
             (same? (get_or L c CN) (kept limit L es))
 
     grid_is : length g ≡ CN → zip_with shut g seen' ≡ claim (counted limit L) (kept limit L es) g L

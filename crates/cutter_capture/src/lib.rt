@@ -1,4 +1,6 @@
 // Closing a cut: the line becomes claimed, then every counted region but one is captured.
+#![tactic(auto)]
+
 ghost use Rattle.std.specs.Prelude.{◌≡◌, length, take};
 ghost use mathlib.Core.List.{zip_with};
 ghost use Rattle.cutter_ground.specs.Cells.{CN};
@@ -17,7 +19,7 @@ pub const MAX_COMP: usize = 48;
 const KEPT: u8 = 2;
 
 // The best region so far: its part of the queue, and its creatures.
-#[derive(Drop)]
+#[derive(Clone, Copy)]
 struct Lead {
     from: usize,
     to: usize,
@@ -25,7 +27,7 @@ struct Lead {
 }
 
 // The region to keep, as a part of the queue, and how many cells were taken from the queue.
-#[derive(Drop)]
+#[derive(Clone, Copy)]
 struct Choice {
     from: usize,
     to: usize,
@@ -33,14 +35,14 @@ struct Choice {
 }
 
 // The creatures that remain, with zeros behind them.
-#[derive(Drop)]
+#[derive(Clone, Copy)]
 struct Herd {
     enemies: [Mover; MAX_ENEMIES],
     count: usize,
 }
 
 // The same, and how many cells the search took.
-#[derive(Drop)]
+#[derive(Clone, Copy)]
 pub struct Closed {
     pub enemies: [Mover; MAX_ENEMIES],
     pub count: usize,

@@ -1,5 +1,5 @@
 -- The largest code tells whether all are codes, and whether one is line. Assumes nothing.
-use mathlib.Core.Bool.{Bool, true, false, cond, ◌&&◌, ◌||◌, and_true, and_assoc, or_false, or_assoc}
+use mathlib.Core.Bool.{Bool, true, false, cond, ◌&&◌, ◌||◌, and-true, and_assoc, or-false, or_assoc}
 use mathlib.Core.List.{List, [], ◌∷◌}
 use mathlib.Core.Logic.{⊎_elim}
 use mathlib.Core.Path.{◌≡◌, refl, sym, ◌∙◌, ap, subst}
@@ -41,7 +41,7 @@ one_line false m k e h =
 
 codes_from : (m : ℕ) (g : List ℕ) → is_code (largest_of m g) ≡ (is_code m && all is_code g)
 unfolding largest_of
-codes_from m [] = sym (and_true (is_code m))
+codes_from m [] = sym (and-true (is_code m))
 codes_from m (k ∷ g) =
     codes_from (cond (ltb m k) k m) g
     ∙ ap (λ (b : Bool). b && all is_code g) (larger_leb m k CB_TRAIL)
@@ -49,7 +49,7 @@ codes_from m (k ∷ g) =
 
 line_from : (m : ℕ) (g : List ℕ) → is_code (largest_of m g) ≡ true → is_trail (largest_of m g) ≡ (is_trail m || any is_trail g)
 unfolding largest_of
-line_from m [] h = sym (or_false (is_trail m))
+line_from m [] h = sym (or-false (is_trail m))
 line_from m (k ∷ g) h =
     let n = cond (ltb m k) k m in
     let c = and_left (is_code n) (all is_code g) (sym (codes_from n g) ∙ h) in

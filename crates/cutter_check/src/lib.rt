@@ -1,4 +1,6 @@
 // Block Cutter: the check of a state that a caller hands in: whole passes over the cells, which are lent and never copied.
+#![tactic(auto)]
+
 mod cause;
 
 ghost use Rattle.std.specs.Prelude.{◌&&◌, ◌≡◌, ◌≤◌, leb, length, take, drop};

@@ -15,7 +15,6 @@ use Rattle.cutter_ground.specs.Cells.{CN, CB_BLACK, CB_FILLED}
 use Rattle.cutter_joined.specs.Joined.{Right}
 use Rattle.cutter_joined.proofs.Joined.{right-black}
 use Rattle.cutter_closing.specs.Counted.{counted, cells_in}
-use Rattle.cutter_closing.specs.Closing.{claim_line}
 use Rattle.cutter_closing.specs.Cost.{searched_in, searched_of, cells_of, SearchCost}
 use Rattle.cutter_closing.proofs.Kept.{Rising, roots_rising}
 use Rattle.cutter_closing.proofs.Roots.{counted-below}

@@ -3,7 +3,7 @@ use mathlib.Core.Path.{◌≡◌, refl, sym, subst}
 use mathlib.Core.Bool.{true, false, ◌&&◌, ◌||◌}
 use mathlib.Core.List.{List, [], ◌∷◌}
 use mathlib.Core.Logic.{◌⊎◌, inl, inr, ⊎_elim}
-use Prim.Native.Nat.{ℕ, zero, suc, ◌+◌, ◌≤◌, ◌<◌}
+use Prim.Native.Nat.{ℕ, zero, suc, ◌≤◌, ◌<◌}
 use native.Mathlib.Omega.{arith}
 use borrow.Author.Tests.{eq-eqb, ne_eqb, lt-ltb, le-ltb}
 use lib.Dec.{eqb, ltb}
@@ -12,7 +12,7 @@ use Rattle.laws.proofs.Choice.{below?, same?}
 use Rattle.cutter_ground.specs.declared.Mover.{Mover}
 use Rattle.cutter_closing.specs.Counted.{roots_from, counted, cells_in}
 use Rattle.cutter_closing.proofs.Roots.{roots_none, roots_root, roots_pass}
-use Rattle.cutter_closing.specs.Closing.{creatures_in, best, kept_of, kept}
+use Rattle.cutter_closing.specs.Closing.{creatures_in, best, kept_of}
 use Rattle.cutter_closing.specs.Kept.{Above, In, Over, Keeps, Kept}
 
 abbrev Under : (e k e' k' : ℕ) → Type 0

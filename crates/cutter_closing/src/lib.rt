@@ -1,8 +1,10 @@
 // A closed cut: what the closing of a line leaves.
+#![tactic(auto)]
+
 use cutter_ground::{CN, MAX_ENEMIES, Mover};
 
 #[repr(C)]
-#[derive(Drop)]
+#[derive(Clone, Copy)]
 pub struct Cut {
     pub grid: [u8; CN],
     pub enemies: [Mover; MAX_ENEMIES],

@@ -1,4 +1,6 @@
 // The ground of Block Cutter: 64 by 32 cells, numbered row by row, and the creatures that move on it.
+#![tactic(auto)]
+
 ghost use Rattle.std.specs.Prelude.{◌≡◌, ◌+◌, ◌*◌, length};
 ghost use Rattle.laws.specs.Lists.{tally};
 ghost use Rattle.cutter_ground.specs.Cells.{CN, cell_at, left_of, right_of, up_of, down_of, black_at, on_border, black_count};
@@ -29,7 +31,7 @@ pub const SEEN: u8 = 1;
 pub const MAX_ENEMIES: usize = 16;
 
 #[repr(C)]
-#[derive(Drop)]
+#[derive(Clone, Copy)]
 pub struct Mover {
     pub x: u8,
     pub y: u8,

@@ -15,7 +15,6 @@ use Rattle.laws.proofs.Filter.{count_ext, all_map, all_true, count_zero, any_zer
 use Rattle.cutter_ground.specs.Cells.{CW, CB_BLACK, CB_FILLED, CB_TRAIL, cell_at}
 use Rattle.cutter_state.specs.declared.Cutter.{Cutter}
 use Rattle.cutter_state.specs.State.{creatures}
-use Rattle.cutter_state.specs.Change.{with_grid}
 use Rattle.cutter_state.specs.WellFormed.{is_code, is_trail, WellFormed}
 use Rattle.cutter_state.proofs.Ring.{code_holds, row_filled, rows-kept, columns-kept}
 use Rattle.cutter_rules.specs.Level.{at_start}

@@ -1,14 +1,14 @@
 -- What the rules do to the share. Assumes nothing.
-use mathlib.Core.Bool.{Bool, true, false}
+use mathlib.Core.Bool.{false}
 use mathlib.Core.Logic.{⊎_elim}
 use mathlib.Core.Path.{◌≡◌, ap}
 use Prim.Native.Nat.{ℕ, ◌≤◌}
 use native.Mathlib.Omega.{arith}
 use Rattle.laws.proofs.Choice.{bool_cases}
 use Rattle.cutter_state.specs.declared.Cutter.{Cutter}
-use Rattle.cutter_state.specs.State.{claimed_in, share_of, share_in}
+use Rattle.cutter_state.specs.State.{claimed_in, share_of}
 use Rattle.cutter_state.specs.WellFormed.{WellFormed}
-use Rattle.cutter_rules.specs.Step.{stepped, respawned, closes}
+use Rattle.cutter_rules.specs.Step.{stepped, closes}
 use Rattle.cutter_keeps.specs.Steps.{lays}
 use Rattle.cutter_keeps.specs.Share.{ShareKept}
 use Rattle.cutter_keeps.proofs.Steps.{step-stepped}

@@ -1,4 +1,6 @@
 // Block Cutter: a fresh level, and the draws that it takes.
+#![tactic(auto)]
+
 ghost use Rattle.std.specs.Prelude.{true, ◌≡◌, ◌+◌, ◌*◌, ◌<◌, ◌≤◌, length};
 ghost use Rattle.laws.specs.Lists.{across};
 ghost use Rattle.cutter_ground.specs.Cells.{CN, CW, CH};

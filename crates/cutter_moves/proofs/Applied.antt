@@ -60,7 +60,7 @@ module _ (c : Cutter) (s r : Step) (h : List ℕ) (d : SteppedOn c.grid c.enemie
 
   -- a cut is yet to be closed
   pub same-ground : r.closes ≡ true → h ≡ c.grid
-  same-ground t = d.ground ∙ sym (first-chosen r.closes c.grid (set c.grid r.at r.code) t)
+  same-ground t = d.after ∙ sym (first-chosen r.closes c.grid (set c.grid r.at r.code) t)
 
   pub shut-made : r.closes ≡ true → closed_at c r.at ≡ stepped c
   shut-made t = first-chosen r.closes (closed_at c r.at) (applied c r) t ∙ told.makes
@@ -68,7 +68,7 @@ module _ (c : Cutter) (s r : Step) (h : List ℕ) (d : SteppedOn c.grid c.enemie
   -- the step closes nothing
   pub left-made : r.closes ≡ false → with_grid (applied c r) h ≡ stepped c
   left-made f =
-      ap (with_grid (applied c r)) (d.ground ∙ sym (second-chosen r.closes c.grid (set c.grid r.at r.code) f))
+      ap (with_grid (applied c r)) (d.after ∙ sym (second-chosen r.closes c.grid (set c.grid r.at r.code) f))
       ∙ second-chosen r.closes (closed_at c r.at) (applied c r) f
       ∙ told.makes
 

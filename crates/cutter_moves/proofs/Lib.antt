@@ -1,4 +1,4 @@
 pub mod Along
-pub mod Step
+pub mod Stepping
 pub mod Roaming
 pub mod Applied

@@ -84,4 +84,4 @@ Stepped g es n s r = (c : Cutter) → Plays c g s → c.enemies ≡ es → c.cou
 pub record SteppedOn (g : List ℕ) (es : List Mover) (n : ℕ) (s r : Step) (h : List ℕ) : Type 0 where
   pub makes : Stepped g es n s r
   pub inside : r.at < CN
-  pub ground : h ≡ cond r.closes g (set g r.at r.code)
+  pub after : h ≡ cond r.closes g (set g r.at r.code)

@@ -47,7 +47,7 @@ pub fn enemy_at(enemies: [Mover; MAX_ENEMIES], count: usize, at: usize) -> Found
 }
 
 // What a creature has ahead: the diagonal cell, and what the side, the vertical and the diagonal one hold.
-#[derive(Drop)]
+#[derive(Clone, Copy)]
 pub struct View {
     pub to: usize,
     pub side: u8,
@@ -138,7 +138,7 @@ fn bounce(grid: &[u8; CN], e: Mover, v: View) -> Mover
 }
 
 // A creature after its move, or as it was where it met the line.
-#[derive(Drop)]
+#[derive(Clone, Copy)]
 pub struct Roamed {
     pub met: bool,
     pub to: Mover,
@@ -166,7 +166,7 @@ fn roam(grid: &[u8; CN], e: Mover) -> Roamed
 
 // The creatures after a tick, and whether one of them met the line.
 #[repr(C)]
-#[derive(Drop)]
+#[derive(Clone, Copy)]
 pub struct Moved {
     pub enemies: [Mover; MAX_ENEMIES],
     pub dead: bool,

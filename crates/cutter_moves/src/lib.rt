@@ -1,4 +1,6 @@
 // Block Cutter: direction, step, creature tick and respawn, on well-formed states.
+#![tactic(auto)]
+
 mod ahead;
 mod enemies;
 mod player;

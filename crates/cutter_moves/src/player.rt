@@ -47,7 +47,7 @@ fn standing(dx: i8, dy: i8) -> bool
 
 // The player's part of a state, and one cell with its code, or the cell at which the step closes a cut.
 #[repr(C)]
-#[derive(Drop)]
+#[derive(Clone, Copy)]
 pub struct Step {
     pub px: usize,
     pub py: usize,

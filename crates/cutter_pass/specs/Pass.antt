@@ -1,5 +1,5 @@
 -- Document 01, 'One pass, and the pacing record': one turn of Block Cutter's loop, on the numbers of the record.
-use Rattle.std.specs.Prelude.{Bool, true, false, cond, not, ◌&&◌, List, [], ◌∷◌, ℕ, ◌+◌, ◌-◌, ◌*◌, ◌/◌, eqb, ltb, length}
+use Rattle.std.specs.Prelude.{Bool, true, false, cond, not, ◌&&◌, List, ℕ, ◌+◌, ◌-◌, ◌*◌, ◌/◌, eqb, ltb, length}
 use Rattle.refusal.specs.declared.Refusal.{Refusal}
 use Rattle.refusal.specs.Refusal.{NONE, DRAWS, LAST_LEVEL, unless, ◌then◌, refused_or}
 use Rattle.answer.specs.declared.Answer.{Answer}
@@ -17,7 +17,7 @@ use Rattle.cutter_rules.specs.Cost.{step_searched, step_walked, respawn_walked}
 use Rattle.cutter_pass.specs.declared.CutterTurn.{CutterTurn}
 use Rattle.cutter_ground.specs.Cells.{INNER}
 use Rattle.cutter_state.specs.State.{black_in}
-use Rattle.controls.specs.Keys.{Played, keyed_by, played_by, UP, RIGHT, DOWN, LEFT}
+use Rattle.controls.specs.Keys.{Played, keyed_by, played_by}
 
 -- step 2,400,000, creatures 4,000,000
 abbrev pub CUT_MOVE_CYCLES : ℕ

@@ -1,5 +1,7 @@
 // One turn of Block Cutter's loop, as definitions (specs/), their laws and what a turn keeps (proofs/); here the words that they share with the
 // code.
+#![tactic(auto)]
+
 use answer::Answer;
 use cutter_ground::INNER;
 use cutter_state::Cutter;
@@ -16,7 +18,7 @@ pub const CLEAR_BLACK_PCT: usize = 25;
 pub const CLEAR_BELOW: usize = INNER * CLEAR_BLACK_PCT / 100;
 
 // The state afterwards, and how many cells were taken by the search of its step's closing and by its walk to the border.
-#[derive(Drop)]
+#[derive(Clone, Copy)]
 pub struct CutterPassed {
     pub refusal: Refusal,
     pub answer: Answer,
@@ -26,7 +28,7 @@ pub struct CutterPassed {
 }
 
 // What a pass makes on numbers: the marks, and the rest.
-#[derive(Drop)]
+#[derive(Clone, Copy)]
 pub struct CutterTurn {
     pub first: u32,
     pub second: u32,

@@ -1,4 +1,6 @@
 // One region of black cells, found by a queue search or by its number. The tables are the caller's and are lent.
+#![tactic(auto)]
+
 ghost use Rattle.cutter_ground.specs.Cells.{CN};
 ghost use Rattle.cutter_regions.specs.CodeSeeking.{Ready, Sought};
 ghost use Rattle.cutter_regions.specs.CodeGathering.{Bare, Gathered, Findable};

@@ -1,6 +1,6 @@
 -- The picture's layers, one drawn on the other. Assumes nothing.
 use mathlib.Core.Path.{◌≡◌, refl, sym, ap, ◌∙◌}
-use mathlib.Core.Bool.{Bool, ◌||◌, ◌&&◌, not, xor, and_assoc, and_comm, and_true, or_assoc, or_false}
+use mathlib.Core.Bool.{Bool, ◌||◌, ◌&&◌, not, xor, and_assoc, and_comm, and-true, or_assoc, or-false}
 use mathlib.Core.List.{List, []}
 use mathlib.Core.Logic.{◌⊎◌, inl, inr}
 use Prim.Native.Nat.{ℕ, ◌+◌, ◌*◌, ◌/◌, ◌<◌}
@@ -24,7 +24,7 @@ use Rattle.cutter_render.specs.CodeDraw.{column_lit}
 -- no creature, and one more
 module _ (frame₀ : List ℕ) (es : List Mover) where
   pub movers_none : Framed frame₀ → frame₀ ≡ inked frame₀ (λ x y. any (mover_lit x y) [])
-  movers_none e = e ∙ pack_ext _ _ (λ x y hx hy. sym (or_false (pixel frame₀ x y)))
+  movers_none e = e ∙ pack_ext _ _ (λ x y hx hy. sym (or-false (pixel frame₀ x y)))
 
   pub movers_more : (i : ℕ) (d : Mover) (frame : List ℕ) → i < length es →
       frame ≡ inked frame₀ (λ x y. any (mover_lit x y) (take i es)) →
@@ -38,7 +38,7 @@ module _ (frame₀ : List ℕ) (es : List Mover) where
 -- no life, and one more
 module _ (frame₀ : List ℕ) where
   pub lives-none : Framed frame₀ → frame₀ ≡ pack (λ x y. pixel frame₀ x y && no_life 0 x y)
-  lives-none e = e ∙ pack_ext _ _ (λ x y hx hy. sym (and_true (pixel frame₀ x y)))
+  lives-none e = e ∙ pack_ext _ _ (λ x y hx hy. sym (and-true (pixel frame₀ x y)))
 
   pub lives_more : (i : ℕ) (frame : List ℕ) → frame ≡ pack (λ x y. pixel frame₀ x y && no_life i x y) →
       papered frame (dot_lit (2 + 3 * i) 0) ≡ pack (λ x y. pixel frame₀ x y && no_life (i + 1) x y)

@@ -1,6 +1,6 @@
 -- One pixel, and one column of a cell: the byte that holds it. Assumes nothing.
 use mathlib.Core.Path.{◌≡◌, refl}
-use mathlib.Core.Bool.{true, false, ◌&&◌, and_false}
+use mathlib.Core.Bool.{true, false, ◌&&◌, and-false}
 use mathlib.Core.Logic.{◌⊎◌, inl, inr}
 use Prim.Native.Nat.{ℕ, ◌+◌, ◌*◌, ◌/◌, ◌%◌, ◌<◌}
 use native.Mathlib.Omega.{arith}
@@ -33,7 +33,7 @@ module _ (x y : ℕ) (hx : x < 128) (hy : y < 64) where
     where
       go : (x ≡ a) ⊎ (x ≡ a → ⊥) → (y ≡ b) ⊎ (y ≡ b → ⊥) → dot_lit x y a b ≡ false
       go (inl p) (inl q) = absurd (n (omega arith))
-      go (inl p) (inr q) = rw (ne_eqb y b q) (and_false (eqb x a))
+      go (inl p) (inr q) = rw (ne_eqb y b q) (and-false (eqb x a))
       go (inr p) q = rw (ne_eqb x a p)
 
 module _ (x cy : ℕ) (hx : x < 128) (hy : cy < 32) where
@@ -48,7 +48,7 @@ module _ (x cy : ℕ) (hx : x < 128) (hy : cy < 32) where
     where
       go : (x ≡ a) ⊎ (x ≡ a → ⊥) → (cy ≡ b / 2) ⊎ (cy ≡ b / 2 → ⊥) → column_lit x cy a b ≡ false
       go (inl p) (inl q) = absurd (n (omega arith))
-      go (inl p) (inr q) = rw (ne_eqb cy (b / 2) q) (and_false (eqb x a))
+      go (inl p) (inr q) = rw (ne_eqb cy (b / 2) q) (and-false (eqb x a))
       go (inr p) q = rw (ne_eqb x a p)
 
 -- a creature of the first n is on the grid

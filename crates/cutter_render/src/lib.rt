@@ -1,4 +1,6 @@
 // Block Cutter: the picture, in a lent frame.
+#![tactic(auto)]
+
 ghost use Rattle.std.specs.Prelude.{◌≡◌, ◌&&◌, take};
 ghost use Rattle.laws.specs.Lists.{any};
 ghost use Rattle.bits.specs.Bits.{number};

@@ -1,5 +1,5 @@
 -- Two cases of the creature tick, computed: P12 and P13 of document 01. Assumes nothing.
-use mathlib.Core.Bool.{or_false}
+use mathlib.Core.Bool.{or-false}
 use mathlib.Core.List.{[], ◌∷◌}
 use mathlib.Core.Path.{◌≡◌}
 use lib.IntN.{pos, negsuc}
@@ -29,4 +29,4 @@ before_corner c = with_grid (fresh_level c (9 ∷ 9 ∷ 1 ∷ 1 ∷ [])) (set fr
 -- P13: it stays, its velocity unchanged
 pub p13 : (c : Cutter) → c.level ≡ 1 → enemies_stepped (before_corner c) ≡ before_corner c
 unfolding table along fresh_grid velocity drawn_mover at_start fresh_level line_ahead flipped turned gone_to bounced movers_stepped enemies_stepped
-p13 c e = rw (e, or_false c.dead)
+p13 c e = rw (e, or-false c.dead)

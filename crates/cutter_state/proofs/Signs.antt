@@ -14,7 +14,7 @@ use Rattle.cutter_state.specs.WellFormed.{is_zero, is_unit, direction_ok}
 
 -- a number comes back from its eight bits
 pub kept : (v : ℤ) → mag v < 128 → to_z w8 (of_z w8 v) ≡ v
-kept v h = to_z-of_z (record { sfits = h })
+kept v h = to_z-of_z {w = w8} {z = v} (record { sfits = h })
 
 module _ (v : ℤ) (f : SFits w8 v) where
   -- a test of the sign

@@ -5,7 +5,7 @@ use Rattle.laws.specs.Lists.{all, any, all_below}
 use Rattle.refusal.specs.declared.Refusal.{Refusal}
 use Rattle.refusal.specs.Refusal.{CELLS, PLAYER, OFF_GRID, WRONG_CELL, HEADING, NUMBERS, unless, ◌then◌}
 use Rattle.refusal.specs.Faults.{fault_in}
-use Rattle.cutter_ground.specs.Cells.{CW, CH, CN, CB_BLACK, CB_FILLED, CB_TRAIL, cell_at, place, on_grid, claimed_at}
+use Rattle.cutter_ground.specs.Cells.{CW, CH, CN, CB_BLACK, CB_FILLED, CB_TRAIL, place, on_grid, claimed_at}
 use Rattle.cutter_ground.specs.declared.Mover.{Mover}
 use Rattle.cutter_state.specs.declared.Cutter.{Cutter}
 use Rattle.cutter_state.specs.State.{holds_at, creatures, spare}

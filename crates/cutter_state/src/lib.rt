@@ -1,4 +1,6 @@
 // Block Cutter: the state.
+#![tactic(auto)]
+
 use cutter_ground::{CN, MAX_ENEMIES, Mover};
 
 pub const MAX_LIVES: u32 = 3;
@@ -6,7 +8,7 @@ pub const MAX_LIVES: u32 = 3;
 pub const MAX_LEVEL: u32 = 65535;
 
 #[repr(C)]
-#[derive(Drop)]
+#[derive(Clone, Copy)]
 pub struct Cutter {
     pub grid: [u8; CN],
     pub px: usize,

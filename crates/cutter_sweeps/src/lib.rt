@@ -1,4 +1,6 @@
 // The regions of black cells by plain sweeps. The table of numbers is the caller's and is lent.
+#![tactic(auto)]
+
 ghost use Rattle.std.specs.Prelude.{◌≡◌};
 ghost use Rattle.cutter_sweeps.specs.Sweeps.{own_of, owns, lower, low, Settled};
 ghost use Rattle.cutter_sweeps.specs.Trainer.{numbers_left};

@@ -1,4 +1,6 @@
 // One turn of Block Cutter's loop: what is left of it when keys, clock, draws and record are numbers.
+#![tactic(auto)]
+
 ghost use Rattle.std.specs.Prelude.{cond, ◌≡◌, ◌-◌};
 ghost use Rattle.cutter_state.specs.WellFormed.{WellFormed};
 ghost use Rattle.cutter_rules.specs.Tick.{enemies_stepped};
@@ -92,7 +94,7 @@ fn press(c: Cutter, key: u8) -> Cutter
 }
 
 // The last key that gives a direction, NO_KEY for none, and whether a key after it quit.
-#[derive(Drop)]
+#[derive(Clone, Copy)]
 pub struct Pressed {
     pub key: u8,
     pub quit: bool,
