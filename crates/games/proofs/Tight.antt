@@ -9,11 +9,11 @@ mine_tight : {M : Type 1} → MineTight M
 mine_tight =
     record {
       load = Mine.load_tight;
-      step-player = Mine.step_player_tight;
+      step_player = Mine.step_player_tight;
       gravity = Mine.gravity_tight;
       move_enemies = Mine.move_enemies_tight;
       pass = Mine.pass_tight;
-      pass-marks = Mine.pass_marks_tight;
+      pass_marks = Mine.pass_marks_tight;
       render = Mine.render_tight;
       who = Mine.who_tight;
       who_of = Mine.who_of_tight;
@@ -22,15 +22,15 @@ mine_tight =
 cutter_tight : {M : Type 1} → CutterTight M
 cutter_tight =
     record {
-      new-round = Cutter.new_round_tight;
-      new-level = Cutter.new_level_tight;
+      new_round = Cutter.new_round_tight;
+      new_level = Cutter.new_level_tight;
       direction = Cutter.direction_tight;
-      step-player = Cutter.step_player_tight;
+      step_player = Cutter.step_player_tight;
       step_by_sweeps = Cutter.step_by_sweeps_tight;
       step_enemies = Cutter.step_enemies_tight;
       respawn = Cutter.respawn_tight;
       pass = Cutter.pass_tight;
-      pass-marks = Cutter.pass_marks_tight;
+      pass_marks = Cutter.pass_marks_tight;
       render = Cutter.render_tight;
       ground_report = Cutter.ground_report_tight;
       who = Cutter.who_tight;
