@@ -24,6 +24,8 @@
 //   677  commands above 3: 5; 683 the same for Cutter
 //   689  questions on lists of their own
 //   771  Mine states with a field at a boundary, accepted; Cutter's are in `replay_swept`
-fn main() {
-    trace_reading::replay(false);
+#![tactic(auto)]
+
+fn main(rt: HostRuntime) {
+    trace_reading::replay(&rt, false);
 }

@@ -13,6 +13,8 @@
 //   161  fresh, down 31 passes: 1,830 cells searched, no walk
 //   193  passes that neither step nor respawn, or are refused: zeros
 //   214  refused where a closing and a walk would take cells: zeros
-fn main() {
-    trace_reading::replay(false);
+#![tactic(auto)]
+
+fn main(rt: HostRuntime) {
+    trace_reading::replay(&rt, false);
 }

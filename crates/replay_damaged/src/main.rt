@@ -4,6 +4,8 @@
 // result, frame, cost, place and place-high, one after the other: nine entries each, with one wrong
 // byte. stdout: what `replay_oracle --each` tells of it. A wrong byte of a state or a record shows in a later entry
 // too, which goes on from it.
-fn main() {
-    trace_reading::replay(true);
+#![tactic(auto)]
+
+fn main(rt: HostRuntime) {
+    trace_reading::replay(&rt, true);
 }

@@ -16,6 +16,8 @@
 //  1456  Cutter: the same from 1024 on
 //  1820  places 64 and 255 across: 32
 //  1960  sixteen right ones, and no level: 4
-fn main() {
-    trace_reading::replay(false);
+#![tactic(auto)]
+
+fn main(rt: HostRuntime) {
+    trace_reading::replay(&rt, false);
 }

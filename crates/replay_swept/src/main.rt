@@ -3,6 +3,8 @@
 // stdin: what the oracle's `trace_oracle swept` writes: each step of the corners that changes the
 // state, from the same state, by sweeps; then, on both sides of every boundary of every field of a
 // Cutter state, a step by sweeps. stdout: what `replay_oracle` tells of it.
-fn main() {
-    trace_reading::replay(false);
+#![tactic(auto)]
+
+fn main(rt: HostRuntime) {
+    trace_reading::replay(&rt, false);
 }

@@ -1,35 +1,44 @@
-// Standard input and output. What fails is told on standard error: the kit has no exit status.
+// Standard input and output. What fails is told on standard error, and the caller goes on: the
+// programs end with status 0.
+#![tactic(auto)]
+
+mod telling;
+
 ghost use Rattle.io.specs.Counts.{IsPrefixLen};
 
-use libc::{STDIN_FILENO, STDOUT_FILENO};
+use std::io::{Error, Read};
+use telling::tell;
 
 // Whether a read failed, by what it answered; tells it.
-pub fn read_failed(got: isize) -> bool {
-    if got < 0 {
-        os::fail(b"standard input");
+pub fn read_failed(rt: &impl Eprint, got: &Result<usize, Error>) -> bool {
+    if let Err(e) = got {
+        tell(rt, "standard input", e);
         return true;
     }
     false
 }
 
 // One read: how many bytes came, 0 where the input has ended or the read failed.
-pub fn read(buf: &mut [u8]) -> usize
+pub fn read(rt: &(impl Input + Eprint), buf: &mut [u8]) -> usize
     ensures { IsPrefixLen result buf.new }
 {
-    let got = libc::read(STDIN_FILENO, buf);
-    if read_failed(got) {
-        return 0;
+    let mut reader = rt.reader();
+    match reader.read(buf) {
+        Ok(n) => n,
+        Err(e) => {
+            tell(rt, "standard input", &e);
+            0
+        }
     }
-    io::count(got, buf)
 }
 
 // Reads until buf is full, the input ends or a read fails.
-pub fn read_full(buf: &mut [u8]) -> usize
+pub fn read_full(rt: &(impl Input + Eprint), buf: &mut [u8]) -> usize
     ensures { IsPrefixLen result buf.new }
 {
     let mut done: usize = 0;
     while done < buf.len() {
-        let more = read(&mut buf[done..]);
+        let more = read(rt, &mut buf[done..]);
         if more == 0 {
             return done;
         }
@@ -39,17 +48,19 @@ pub fn read_full(buf: &mut [u8]) -> usize
 }
 
 // Writes all of bytes; false where that failed.
-pub fn write(bytes: &[u8]) -> bool {
-    if io::write_all(STDOUT_FILENO, bytes) {
-        return true;
+pub fn write(rt: &(impl Print + Eprint), bytes: &[u8]) -> bool {
+    match rt.write_all(bytes) {
+        Ok(()) => true,
+        Err(e) => {
+            tell(rt, "standard output", &e);
+            false
+        }
     }
-    os::fail(b"standard output");
-    false
 }
 
 // Writes a number; false where that failed.
-pub fn write_number(n: u64) -> bool {
+pub fn write_number(rt: &(impl Print + Eprint), n: u64) -> bool {
     let mut digits = [0u8; 20];
     let k = io::decimal(n, &mut digits);
-    write(&digits[..k])
+    write(rt, &digits[..k])
 }

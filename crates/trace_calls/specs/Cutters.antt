@@ -67,11 +67,11 @@ module _ (h : Head) (args current state result : List ℕ) where
   cutter_pictured c = exactly 2 args (showed h current state result (picture_of c (stale_of (word_at 2 0 args))))
 
   -- 25: black, claimed, line, share, 2 bytes each
-  abbrev pub ground : Ground → Part
-  ground g = stays h current state result g.refusal (pair_in 2 g.black g.claimed ++ pair_in 2 g.line g.share)
+  abbrev pub ground_told : Ground → Part
+  ground_told g = stays h current state result g.refusal (pair_in 2 g.black g.claimed ++ pair_in 2 g.line g.share)
 
   unfoldable pub cutter_reported : Cutter → Part
-  cutter_reported c = exactly 0 args (ground (report_call c))
+  cutter_reported c = exactly 0 args (ground_told (report_call c))
 
   -- 29
   unfoldable pub cutter_swept : Cutter → Pace → Part

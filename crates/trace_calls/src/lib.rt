@@ -1,4 +1,6 @@
 // The call of a trace's entry, made through the public calls, against what the entry tells.
+#![tactic(auto)]
+
 mod cutters;
 mod mines;
 mod shared;

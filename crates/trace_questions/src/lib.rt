@@ -1,4 +1,6 @@
 // The questions, on a list of any length: asked of as many creatures at a time as a game holds.
+#![tactic(auto)]
+
 ghost use Rattle.std.specs.Prelude.{◌*◌, ◌≤◌, length, ◌≡◌};
 ghost use Rattle.trace_states.specs.Mines.{ENEMY};
 ghost use Rattle.trace_states.specs.Cutters.{MOVER};

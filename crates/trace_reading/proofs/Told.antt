@@ -1,7 +1,6 @@
 -- What a replay counts: the counts of its run are those of its entries. Assumes nothing.
 use Rattle.std.proofs.Common.{◌≡◌, ℕ, suc, ◌+◌, ◌≤◌, Bool, true, false, cond, not, List, [], ◌∷◌, ◌++◌, length, sym, refl, ap, ◌∙◌, arith}
 use Rattle.laws.specs.Lists.{bit, count}
-use Rattle.laws.proofs.Counts.{count-append}
 use Rattle.trace_verdict.specs.declared.Part.{Part}
 use Rattle.trace_verdict.specs.declared.Part.TheVariants.{Same, Unread, Refusal, Place, Answer, State, Record, Result}
 use Rattle.trace_reading.specs.declared.reading.Run.{Run}

@@ -1,5 +1,5 @@
 -- Traces: a run over the entries. What an entry counts for.
-use Rattle.std.specs.Prelude.{ℕ, ◌+◌, ◌-◌, ◌%◌, Bool, true, false, cond, not, ◌&&◌, List, take, ◌==◌, slice_index, slice_range}
+use Rattle.std.specs.Prelude.{ℕ, ◌+◌, ◌%◌, Bool, true, false, cond, not, ◌&&◌, List, take, ◌==◌, slice_index, slice_range}
 use Rattle.laws.specs.Lists.{bit}
 use Rattle.trace_words.specs.Numbers.{word_at}
 use Rattle.trace_verdict.specs.declared.Head.{Head}

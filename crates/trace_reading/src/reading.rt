@@ -23,7 +23,7 @@ const MOST: usize = 65536;
 
 // An entry as it was read: whether the trace is over, whether all of the entry is there, what its
 // header tells, and the lengths of its parts.
-#[derive(Drop)]
+#[derive(Clone, Copy)]
 struct Shape {
     over: bool,
     whole: bool,
@@ -34,7 +34,7 @@ struct Shape {
 }
 
 // A run so far: entries, bytes, calls and differences, and the length of the current state.
-#[derive(Drop)]
+#[derive(Clone, Copy)]
 struct Run {
     entries: u64,
     offset: u64,
@@ -43,7 +43,7 @@ struct Run {
     state: usize,
 }
 
-#[derive(Drop)]
+#[derive(Clone, Copy)]
 struct Turned {
     run: Run,
     more: bool,
@@ -69,18 +69,18 @@ fn head_of(header: &[u8]) -> Head
 }
 
 // Reads an entry: its header, and its three parts into `body`.
-fn read_entry(body: &mut [u8]) -> Shape
+fn read_entry(rt: &(impl Input + Eprint), body: &mut [u8]) -> Shape
     requires { length body.old ≡ BODY }
     ensures { Lengths result.args result.state result.result × (length body.new ≡ BODY) }
 {
     let mut header = [0u8; HEADER];
-    let got = streams::read_full(&mut header);
+    let got = streams::read_full(rt, &mut header);
     let spare = header[3];
     let args = length_at(&header, 4);
     let state = length_at(&header, 6);
     let result = length_at(&header, 8);
     let n = args + state + result;
-    let read = streams::read_full(&mut body[..n]);
+    let read = streams::read_full(rt, &mut body[..n]);
     Shape {
         over: got == 0,
         whole: (got == HEADER) & (spare == 0) & (read == n),
@@ -152,12 +152,12 @@ fn is_unread(part: Part) -> bool
 }
 
 // The first difference is told, or each of them.
-fn tell(run: Run, each: bool, call: u8, part: Part) {
+fn tell(rt: &(impl Print + Eprint), run: Run, each: bool, call: u8, part: Part) {
     if is_same(part) {
         return;
     }
     if each | (run.differ == 0) {
-        say_difference(run.entries, run.offset, call, part);
+        say_difference(rt, run.entries, run.offset, call, part);
     }
 }
 
@@ -184,12 +184,18 @@ fn after(run: Run, e: Shape, part: Part, state: usize) -> Run
 }
 
 // Reads an entry, makes its call, and tells what differs.
-fn turn(run: Run, each: bool, body: &mut [u8], current: &mut [u8]) -> Turned
+fn turn(
+    rt: &(impl Input + Print + Eprint),
+    run: Run,
+    each: bool,
+    body: &mut [u8],
+    current: &mut [u8],
+) -> Turned
     requires { Buffers body.old current.old run.state }
     ensures { Buffers body.new current.new result.run.state
         × Turns run body.new (take run.state current.old) result }
 {
-    let e = read_entry(body);
+    let e = read_entry(rt, body);
     if e.over {
         return Turned { run, more: false };
     }
@@ -197,7 +203,7 @@ fn turn(run: Run, each: bool, body: &mut [u8], current: &mut [u8]) -> Turned
     let part = judged(e, body, &current[..n]);
     let state = keep(e, n, body, current);
     let head = e.head;
-    tell(run, each, head.call, part);
+    tell(rt, run, each, head.call, part);
     let next = after(run, e, part, state);
     Turned {
         run: next,
@@ -207,7 +213,7 @@ fn turn(run: Run, each: bool, body: &mut [u8], current: &mut [u8]) -> Turned
 
 // The run over the entries of standard input. A proved loop has to end, and nothing says that the
 // input does: so it counts its turns down, from a number that no run uses up.
-fn read_all(each: bool) -> Run
+fn read_all(rt: &(impl Input + Print + Eprint), each: bool) -> Run
     ensures { Ran result }
 {
     let mut body = [0u8; BODY];
@@ -222,7 +228,7 @@ fn read_all(each: bool) -> Run
     let mut more = true;
     let mut turns = u64::MAX;
     while more & (turns > 0) {
-        let t = turn(run, each, &mut body, &mut current);
+        let t = turn(rt, run, each, &mut body, &mut current);
         run = t.run;
         more = t.more;
         turns -= 1;
@@ -231,11 +237,11 @@ fn read_all(each: bool) -> Run
 }
 
 // Replays standard input.
-pub fn replay(each: bool) {
-    let run = read_all(each);
+pub fn replay(rt: &(impl Input + Print + Eprint), each: bool) {
+    let run = read_all(rt, each);
     if run.entries == 0 {
-        say_nothing();
+        say_nothing(rt);
         return;
     }
-    say_verdict(run.calls, run.differ);
+    say_verdict(rt, run.calls, run.differ);
 }

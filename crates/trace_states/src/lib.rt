@@ -1,5 +1,7 @@
 // States as the bytes of a trace: every field in the order of the struct, at the full width of its
 // type, low byte first, all creature slots included, then the two clock marks.
+#![tactic(auto)]
+
 mod cutters;
 mod mines;
 

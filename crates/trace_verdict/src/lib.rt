@@ -1,4 +1,6 @@
 // What an entry tells, against what its call gave.
+#![tactic(auto)]
+
 ghost use Rattle.std.specs.Prelude.{◌-◌, ◌≡◌};
 ghost use Rattle.trace_verdict.specs.Compare.{first_difference, RECORD, placed, theirs, rewritten, place_told, compared};
 
@@ -6,7 +8,7 @@ use refusal::Refusal;
 
 // The part of an entry that differs, with its first byte where it has several. Unread is an entry
 // that can't be read.
-#[derive(Drop)]
+#[derive(Clone, Copy)]
 pub enum Part {
     Same,
     Unread,
@@ -19,7 +21,7 @@ pub enum Part {
 }
 
 // What the header of an entry tells.
-#[derive(Drop)]
+#[derive(Clone, Copy)]
 pub struct Head {
     pub call: u8,
     pub refusal: u8,
@@ -31,7 +33,7 @@ pub struct Head {
 pub const RECORD: usize = 8;
 
 // Where two runs of bytes differ first.
-#[derive(Drop)]
+#[derive(Clone, Copy)]
 pub enum Difference {
     From(usize),
     Nowhere,

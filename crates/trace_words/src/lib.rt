@@ -1,4 +1,6 @@
 // Numbers, signed bytes and runs of bytes, as they stand in a trace.
+#![tactic(auto)]
+
 ghost use Rattle.std.specs.Prelude.{◌+◌, ◌≤◌, ◌≡◌, length};
 ghost use Rattle.trace_words.specs.Numbers.{bytes_in, pair_in, signed_of, byte_of, cells_at, InWord, Word};
 ghost use Rattle.trace_words.specs.CodeLays.{Lays};

@@ -1,0 +1,16 @@
+use mathlib.Core.Path.{ap, ◌∙◌}
+use borrow.Author.Tests.{eq-eqb, ne_eqb}
+use Rattle.trace_calls.specs.Shared.{exactly}
+use Rattle.trace_calls.specs.Mines.{answered, mine_fallen}
+use Rattle.trace_calls.proofs.mines.fallen.Goals as goal
+
+pub returns-then-args-ne0 : goal.returns-then-args-ne0
+unfolding mine_fallen exactly
+returns-then-args-ne0 c = simp (ne_eqb _ _ c.if-args-ne0.true)
+
+pub returns : goal.returns
+unfolding mine_fallen exactly
+returns c =
+    let a = c.args in
+    rw (eq-eqb _ _ c.if-args-ne0.false)
+    (c.mine_answered.ensures ∙ ap (answered a.h a.args.now a.current.now a.state.now a.res.now a.p) c.gravity-a.ensures)

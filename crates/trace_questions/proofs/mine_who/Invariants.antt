@@ -1,0 +1,13 @@
+use mathlib.Core.Path.{◌≡◌}
+use Prim.Native.Nat.{◌-◌}
+use lib.ListN.{take}
+use Rattle.found.specs.First.{first}
+use Rattle.mine_state.specs.State.{stands_at}
+use Rattle.trace_questions.specs.Lists.{enemies_in}
+use Rattle.trace_questions.proofs.mine_who.Given as goal
+
+abbrev pub invariant-loop-from : goal.invariant-loop-from
+invariant-loop-from l = l.found ≡ first (stands_at l.x l.y) (take l.from (enemies_in l.list))
+
+abbrev pub decreases-loop-from : goal.decreases-loop-from
+decreases-loop-from l = l.n - l.from

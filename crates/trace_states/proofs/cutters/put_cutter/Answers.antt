@@ -1,0 +1,10 @@
+use Rattle.trace_states.specs.Cutters.{cutter_bytes}
+use Rattle.trace_words.proofs.Lays.{lays-both, lays-whole}
+use Rattle.trace_states.proofs.cutters.put_cutter.Goals as goal
+
+pub returns : goal.returns
+unfolding cutter_bytes
+returns c =
+    lays-whole c.requires (lays-both
+    (lays-both (lays-both (lays-both (lays-both (lays-both c.put_grid.ensures c.put_player.ensures) c.put_movers.ensures)
+    c.put_word.ensures) c.put_pair.ensures) c.put_pair-2.ensures) c.put_pair-3.ensures)
