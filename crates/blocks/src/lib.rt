@@ -1,4 +1,6 @@
 // A frame as text: two rows of pixels to a line, a block for each pair.
+#![tactic(auto)]
+
 ghost use Rattle.std.specs.Prelude.{◌≡◌, ◌+◌, ◌<◌, ◌≤◌, length};
 ghost use Rattle.blocks.specs.CodeRoom.{Room, Line};
 
@@ -35,7 +37,7 @@ fn put_pair(out: &mut [u8; LINE], at: usize, pair: u8) -> usize
 }
 
 // Writes line y; false where that failed.
-fn put_line(frame: &[u8; FRAME_LEN], y: usize) -> bool
+fn put_line(rt: &(impl Print + Eprint), frame: &[u8; FRAME_LEN], y: usize) -> bool
     requires { Line frame.now y }
 {
     let start = y / PAIRS * PAGE_LEN;
@@ -50,16 +52,16 @@ fn put_line(frame: &[u8; FRAME_LEN], y: usize) -> bool
     }
     out[at] = b'\n';
     let end = at + 1;
-    streams::write(&out[..end])
+    streams::write(rt, &out[..end])
 }
 
 // Writes a whole frame; false where that failed.
-pub fn put_frame(frame: &[u8; FRAME_LEN]) -> bool
+pub fn put_frame(rt: &(impl Print + Eprint), frame: &[u8; FRAME_LEN]) -> bool
     requires { length frame.now ≡ 1024 }
 {
     let mut y: usize = 0;
     while y < LINES {
-        if !put_line(frame, y) {
+        if !put_line(rt, frame, y) {
             return false;
         }
         y += 1;

@@ -3,36 +3,29 @@
 // up to `|`, then Block Cutter; `=` shows the screen.
 //
 // stdin, args: a play of each. stdout: what the oracle's `console_oracle WORD` prints for it.
+#![tactic(auto)]
+
 mod live;
 mod scripted;
 
-use check::same;
 use console_turns::MOST_DRAWS;
-use libc::STDERR_FILENO;
+use std::env::{Env, FillError};
+use std::io::IsTerminal;
 
 // Room for a name, and for a word.
 const WORD: usize = MOST_DRAWS;
 
-fn main() {
+fn main(rt: HostRuntime) {
     let mut word = [0u8; WORD];
-    os::arg(2, &mut word);
-    let fixed = 2 < os::arg_count();
+    let fixed = !matches!(rt.arg(2, &mut word), Err(FillError::NotPresent));
     let mut name = [0u8; WORD];
-    let k = os::arg(1, &mut name);
-    if same(&name[..k], b"mine") {
-        crate::live::play_mine();
-        return;
+    let k = rt.arg(1, &mut name).unwrap_or(0);
+    match &name[..k] {
+        b"mine" => crate::live::play_mine(&rt, rt.stdin().is_terminal()),
+        b"cutter" => crate::live::play_cutter(&rt, rt.stdin().is_terminal(), fixed, word),
+        b"script" => crate::scripted::play_script(&rt, word),
+        _ => {
+            let _ = eprintln!(rt; "usage: console mine | cutter | script WORD");
+        }
     }
-    if same(&name[..k], b"cutter") {
-        crate::live::play_cutter(fixed, word);
-        return;
-    }
-    if same(&name[..k], b"script") {
-        crate::scripted::play_script(word);
-        return;
-    }
-    io::write_all(
-        STDERR_FILENO,
-        b"usage: console mine | cutter | script WORD\n",
-    );
 }

@@ -12,7 +12,7 @@ const SHOW: u8 = b'=';
 const BAR: u8 = b'|';
 
 // Plays Block Mine up to the bar, and answers where the rest begins.
-fn play_mine(bytes: &[u8]) -> usize
+fn play_mine(rt: &(impl Print + Eprint), bytes: &[u8]) -> usize
     ensures { result ≤ length bytes.now }
 {
     let mut time: u32 = 0;
@@ -26,7 +26,7 @@ fn play_mine(bytes: &[u8]) -> usize
             return i;
         }
         if b == SHOW {
-            if !console_screens::show(console_screens::mine_screen(p)) {
+            if !console_screens::show(rt, console_screens::mine_screen(p)) {
                 return bytes.len();
             }
         } else {
@@ -40,7 +40,7 @@ fn play_mine(bytes: &[u8]) -> usize
 }
 
 // Plays Block Cutter.
-fn play_cutter(bytes: &[u8], draws: [u8; MOST_DRAWS]) {
+fn play_cutter(rt: &(impl Print + Eprint), bytes: &[u8], draws: [u8; MOST_DRAWS]) {
     let mut time: u32 = 0;
     let n = console_screens::within(console_turns::ROUND, &draws);
     let mut p = console_turns::cutter_start(&draws[..n], time);
@@ -50,7 +50,7 @@ fn play_cutter(bytes: &[u8], draws: [u8; MOST_DRAWS]) {
         let b = bytes[i];
         i += 1;
         if b == SHOW {
-            if !console_screens::show(console_screens::cutter_screen(p)) {
+            if !console_screens::show(rt, console_screens::cutter_screen(p)) {
                 return;
             }
         } else {
@@ -63,12 +63,12 @@ fn play_cutter(bytes: &[u8], draws: [u8; MOST_DRAWS]) {
     }
 }
 
-pub fn play_script(word: [u8; MOST_DRAWS]) {
+pub fn play_script(rt: &(impl Input + Print + Eprint), word: [u8; MOST_DRAWS]) {
     let mut draws = word;
     console_turns::to_draws(&mut draws);
     let mut input = io::large_buffer();
-    let n = streams::read_full(&mut input);
+    let n = streams::read_full(rt, &mut input);
     let text = &input[..n];
-    let k = play_mine(text);
-    play_cutter(&text[k..], draws);
+    let k = play_mine(rt, text);
+    play_cutter(rt, &text[k..], draws);
 }

@@ -1,7 +1,7 @@
 -- The system's clock in the games' unit: 80 cycles to a microsecond.
 use Rattle.std.specs.Prelude.{ℕ, ◌+◌, ◌*◌, ◌/◌, ◌%◌, ◌^◌, ℤ, pos, negsuc}
 
--- no clock gives a number below 0, which counts as 0
+-- a number below 0 counts as 0
 abbrev pub natural_of : ℤ → ℕ
 natural_of (pos n) = n
 natural_of (negsuc n) = 0

@@ -1,9 +1,11 @@
 // The system's clock in the games' unit, and a short wait.
+#![tactic(auto)]
+
 ghost use Rattle.std.specs.Prelude.{◌≡◌};
 ghost use Rattle.console_clock.specs.Cycles.{natural_of, cycles_of};
 
-use libc::CLOCK_MONOTONIC;
-use libc::types::timespec;
+use std::thread;
+use std::time::{Clock, Duration};
 
 // The games count 80 cycles to a microsecond.
 const SECOND: u64 = 80_000_000;
@@ -11,30 +13,17 @@ const SECOND: u64 = 80_000_000;
 // A reading wraps at 2^32.
 const WRAP: u64 = 4_294_967_296;
 
-// What the system's clock says.
-fn stamp() -> timespec {
-    let mut t = timespec {
-        tv_sec: 0,
-        tv_nsec: 0,
-    };
-    libc::clock_gettime(CLOCK_MONOTONIC, &mut t);
-    t
+// What the system's clock says, or its start where it can't be read.
+fn stamp(rt: &impl Clock) -> Duration {
+    rt.monotonic().unwrap_or(Duration::ZERO)
 }
 
-// Waits for so many nanoseconds, or less where a signal ends it.
-pub fn nap(nanos: i64) {
-    let asked = timespec {
-        tv_sec: 0,
-        tv_nsec: nanos,
-    };
-    let mut left = timespec {
-        tv_sec: 0,
-        tv_nsec: 0,
-    };
-    libc::nanosleep(&asked, &mut left);
+// Waits for so many nanoseconds; for none where they are below 0.
+pub fn nap(rt: &impl Clock, nanos: i64) {
+    thread::sleep(rt, Duration::from_nanos(natural(nanos)));
 }
 
-// No clock gives a number below 0.
+// No wait is below 0.
 fn natural(z: i64) -> u64
     ensures { result ≡ natural_of z }
 {
@@ -54,9 +43,7 @@ fn cycles(sec: u64, nsec: u64) -> u32
 }
 
 // The clock's reading.
-pub fn reading() -> u32 {
-    let t = stamp();
-    let sec = natural(t.tv_sec);
-    let nsec = natural(t.tv_nsec);
-    cycles(sec, nsec)
+pub fn reading(rt: &impl Clock) -> u32 {
+    let t = stamp(rt);
+    cycles(t.as_secs(), u64::from(t.subsec_nanos()))
 }

@@ -1,5 +1,5 @@
 -- Which key a byte from a terminal is: a byte by itself, or the byte that ends an escape sequence.
-use Rattle.std.specs.Prelude.{Bool, true, false, cond, ◌||◌, List, [], ◌∷◌, ℕ, eqb, ltb}
+use Rattle.std.specs.Prelude.{cond, List, [], ◌∷◌, ℕ, eqb, ltb}
 use Prim.Native.Char.{code}
 use Rattle.controls.specs.Keys.{KEY_UP, KEY_LEFT, KEY_DOWN, KEY_RIGHT, KEY_QUIT}
 

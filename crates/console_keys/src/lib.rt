@@ -1,4 +1,6 @@
 // Bytes from a terminal as the keys of a pass.
+#![tactic(auto)]
+
 ghost use Rattle.std.specs.Prelude.{◌≡◌};
 ghost use Rattle.console_keys.specs.Keys.{PLAIN_KEYS, ARROWS, key_in, heard_key, waits_after, keys_of, waits_of};
 
@@ -25,6 +27,7 @@ const FINAL: u8 = 64;
 const END: u8 = 4;
 
 // The key of a byte by itself.
+#[tactic(auto, unfolding(crate::specs::Keys::key_in))]
 fn plain_key(b: u8) -> u8
     ensures { result ≡ key_in PLAIN_KEYS b }
 {
@@ -42,6 +45,7 @@ fn plain_key(b: u8) -> u8
 }
 
 // The key of the byte that ends a sequence.
+#[tactic(auto, unfolding(crate::specs::Keys::key_in))]
 fn arrow_key(b: u8) -> u8
     ensures { result ≡ key_in ARROWS b }
 {

@@ -1,4 +1,6 @@
 // What a terminal shows: the head line and the screen.
+#![tactic(auto)]
+
 mod heads;
 mod screens;
 

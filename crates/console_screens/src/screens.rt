@@ -3,12 +3,11 @@ ghost use Rattle.io.specs.Counts.{IsPrefixLen};
 ghost use Rattle.console_screens.specs.Screens.{MineShown, CutterShown};
 
 use crate::heads::HEAD;
-use check::same;
 use console_turns::{CutterPlay, MinePlay};
 use frame::FRAME_LEN;
 
 // A head line, its bytes up to `end`, and a frame.
-#[derive(Drop)]
+#[derive(Clone, Copy)]
 pub struct Screen {
     pub head: [u8; HEAD],
     pub end: usize,
@@ -49,41 +48,41 @@ pub fn within(n: usize, buf: &[u8]) -> usize
 }
 
 // The head line and the frame, as they stand; false where that failed.
-pub fn show(s: Screen) -> bool {
+pub fn show(rt: &(impl Print + Eprint), s: Screen) -> bool {
     let head = s.head;
     let end = within(s.end, &head);
-    if !streams::write(&head[..end]) {
+    if !streams::write(rt, &head[..end]) {
         return false;
     }
-    if !streams::write(b"\n") {
+    if !streams::write(rt, b"\n") {
         return false;
     }
     let frame = s.frame;
-    blocks::put_frame(&frame)
+    blocks::put_frame(rt, &frame)
 }
 
 // Shows a screen in place of another, where they differ; false where that failed.
-pub fn refresh(s: Screen, shown: Screen) -> bool {
+pub fn refresh(rt: &(impl Print + Eprint), s: Screen, shown: Screen) -> bool {
     let frame = s.frame;
     let before = shown.frame;
     let head = s.head;
     let above = shown.head;
-    if same(&frame, &before) {
-        if same(&head, &above) {
+    if frame == before {
+        if head == above {
             return true;
         }
     }
     // The cursor to the top left, and the old head line away.
-    if !streams::write(b"\x1b[H\x1b[K") {
+    if !streams::write(rt, b"\x1b[H\x1b[K") {
         return false;
     }
-    show(s)
+    show(rt, s)
 }
 
 // A cleared terminal, and the first screen; false where that failed.
-pub fn begin(s: Screen) -> bool {
-    if !streams::write(b"\x1b[2J\x1b[H") {
+pub fn begin(rt: &(impl Print + Eprint), s: Screen) -> bool {
+    if !streams::write(rt, b"\x1b[2J\x1b[H") {
         return false;
     }
-    show(s)
+    show(rt, s)
 }

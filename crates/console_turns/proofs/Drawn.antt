@@ -2,7 +2,7 @@
 use lib.Dec.{eqb}
 use Rattle.laws.proofs.Choice.{cond_both}
 use Rattle.cutter_rules.specs.Level.{DRAWS_EACH}
-use mathlib.Core.List.{List, [], ◌∷◌, ◌++◌, append-nil}
+use mathlib.Core.List.{List, ◌++◌, append-nil}
 use mathlib.Core.Path.{◌≡◌, sym, ◌∙◌}
 use Prim.Native.Nat.{ℕ, suc, ◌+◌, ◌%◌, ◌<◌}
 use native.Mathlib.Numerals.{add-one}

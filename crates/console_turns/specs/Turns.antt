@@ -10,7 +10,6 @@ use Rattle.mine_rules.specs.Load.{loaded}
 use Rattle.mine_pass.specs.declared.MineTurn.{MineTurn}
 use Rattle.mine_pass.specs.Pass as Mine
 use Rattle.cutter_ground.specs.Cells.{CW, CH}
-use Rattle.cutter_state.specs.declared.Cutter.{Cutter}
 use Rattle.cutter_rules.specs.Level.{DRAWS_EACH, creatures_of, draws_ok}
 use Rattle.cutter_pass.specs.declared.CutterTurn.{CutterTurn}
 use Rattle.cutter_pass.specs.Pass as Cutter

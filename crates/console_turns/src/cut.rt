@@ -12,7 +12,7 @@ use controls::KEY_QUIT;
 use cutter_state::Cutter;
 
 // The game, the marks of its record, and how the round stands.
-#[derive(Drop)]
+#[derive(Clone, Copy)]
 pub struct CutterPlay {
     pub game: Cutter,
     pub first: u32,
@@ -37,6 +37,7 @@ fn next_draws(level: u32) -> usize
 }
 
 // How many draws the next turn takes.
+#[tactic(auto, unfolding(crate::specs::Turns::draws_due, cutter_pass::specs::Pass::level_due))]
 pub fn cutter_draws(p: CutterPlay) -> usize
     ensures { result ≡ draws_due p }
 {
@@ -54,6 +55,7 @@ pub fn cutter_draws(p: CutterPlay) -> usize
 }
 
 // A round from its first reading on.
+#[tactic(auto, unfolding(crate::specs::Turns::cutter_started))]
 pub fn cutter_start(draws: &[u8], time: u32) -> CutterPlay
     ensures { result ≡ cutter_started draws.now time }
 {
@@ -90,6 +92,7 @@ fn cutter_pass(p: CutterPlay, keys: &[u8], draws: &[u8], time: u32) -> CutterPla
 }
 
 // One turn: a pass while the round goes on; then the end, or another round, by key.
+#[tactic(auto, unfolding(crate::specs::Turns::cutter_turn))]
 pub fn cutter_turn(p: CutterPlay, keys: &[u8], draws: &[u8], time: u32) -> CutterPlay
     ensures { result ≡ cutter_turn p keys.now draws.now time }
 {

@@ -13,6 +13,7 @@ const ROWS: u8 = 30;
 const WAYS: u8 = 2;
 
 // A draw is below 62, 30, 2 or 2, by its place.
+#[tactic(auto, unfolding(crate::specs::Turns::limit_at))]
 fn limit(place: usize) -> u8
     ensures { result ≡ limit_at place }
 {

@@ -1,4 +1,6 @@
 // One turn of each game at a console, over the public calls: the marks, the draws, and the end of a round.
+#![tactic(auto)]
+
 mod cut;
 mod draws;
 mod mining;
@@ -25,6 +27,7 @@ pub const QUIT: u8 = 4;
 
 pub const REFUSED: u8 = 5;
 
+#[tactic(auto, unfolding(crate::specs::Turns::standing))]
 fn stands(no: Refusal, said: Answer) -> u8
     ensures { result ≡ standing no said }
 {

@@ -9,7 +9,7 @@ use controls::KEY_QUIT;
 use mine_state::Mine;
 
 // The game, the marks of its record, and how the round stands.
-#[derive(Drop)]
+#[derive(Clone, Copy)]
 pub struct MinePlay {
     pub game: Mine,
     pub first: u32,
@@ -46,6 +46,7 @@ fn mine_pass(p: MinePlay, keys: &[u8], time: u32) -> MinePlay
 }
 
 // One turn: a pass while the round goes on; then the end, or another round, by key.
+#[tactic(auto, unfolding(crate::specs::Turns::mine_turn))]
 pub fn mine_turn(p: MinePlay, keys: &[u8], time: u32) -> MinePlay
     ensures { result ≡ mine_turn p keys.now time }
 {

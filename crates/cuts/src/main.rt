@@ -3,6 +3,8 @@
 //
 // stdin: `8sr` and a newline, then oracle/cases/cuts_play.txt. stdout: what the oracle's
 // `cuts_oracle` prints for it.
-fn main() {
-    lines::play_cuts(false);
+#![tactic(auto)]
+
+fn main(rt: HostRuntime) {
+    lines::play_cuts(&rt, false);
 }

@@ -1,11 +1,8 @@
 -- Document 01's example, computed. Assumes nothing.
 use mathlib.Core.Bool.{false}
-use mathlib.Core.List.{List}
-use mathlib.Core.Path.{◌≡◌, refl, subst, sym}
-use Prim.Native.Nat.{ℕ}
+use mathlib.Core.Path.{◌≡◌, refl}
 use Rattle.text.specs.Text.{bytes_of, decimal_in, further, numbers_line, line_of}
 use Rattle.refusal.specs.Faults.{first_fault, fault_in}
-use Rattle.mine_state.specs.declared.Mine.{Mine}
 use Rattle.mine_state.specs.State.{empty_at, free_at}
 use Rattle.mine_state.specs.WellFormed.{cells_ok, creature_fault, creatures_fault, numbers_ok, refusal_of}
 use Rattle.mine_rules.specs.Ways.{next_cell}

@@ -13,14 +13,14 @@ use text::{NUMBERS, Says};
 // The draws of the start: a creature at (10,10), velocity (1,1).
 const START: [u8; 4] = [9, 9, 1, 1];
 
-#[derive(Drop)]
+#[derive(Clone, Copy)]
 pub struct CutSaid {
     pub says: Says,
     pub game: Cutter,
 }
 
 // The game after some bytes, and where their lines end.
-#[derive(Drop)]
+#[derive(Clone, Copy)]
 pub struct CutRun {
     pub game: Cutter,
     pub end: usize,
@@ -72,6 +72,7 @@ fn said_of(a: CutterAnswer) -> CutSaid
 }
 
 // One byte: 5 8 7 9 direction, s step, e creatures, r respawn; newline is ignored, others are refused.
+#[tactic(auto, unfolding(crate::specs::Cuts::cut_byte))]
 pub fn cut_byte(c: Cutter, b: u8) -> CutSaid
     ensures { result ≡ cut_byte c b }
 {
@@ -95,6 +96,7 @@ pub fn cut_byte(c: Cutter, b: u8) -> CutSaid
 }
 
 // The next byte of a run; where the run is parted into scripts, each of them starts anew.
+#[tactic(auto, unfolding(crate::specs::Cuts::cut_next))]
 pub fn cut_next(c: Cutter, parted: bool, b: u8) -> CutSaid
     ensures { result ≡ cut_next parted c b }
 {

@@ -1,4 +1,6 @@
 // What the programs do with one byte, with a run of bytes, and with standard input.
+#![tactic(auto)]
+
 mod cuts;
 mod mines;
 mod reading;

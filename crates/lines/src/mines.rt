@@ -9,14 +9,14 @@ use mine::MineAnswer;
 use mine_state::Mine;
 use text::{NUMBERS, Says};
 
-#[derive(Drop)]
+#[derive(Clone, Copy)]
 pub struct MineSaid {
     pub says: Says,
     pub game: Mine,
 }
 
 // The game after some bytes, and where their lines end.
-#[derive(Drop)]
+#[derive(Clone, Copy)]
 pub struct MineRun {
     pub game: Mine,
     pub end: usize,
@@ -56,6 +56,7 @@ fn said_of(a: MineAnswer) -> MineSaid
 }
 
 // One byte: L load, 5 8 7 9 move, g gravity, c creatures; newline is ignored, others are refused.
+#[tactic(auto, unfolding(crate::specs::Mines::mine_byte))]
 pub fn mine_byte(m: Mine, b: u8) -> MineSaid
     ensures { result ≡ mine_byte m b }
 {
@@ -82,6 +83,7 @@ pub fn mine_byte(m: Mine, b: u8) -> MineSaid
 }
 
 // The next byte of a run; where the run is parted into scripts, each of them starts loaded.
+#[tactic(auto, unfolding(crate::specs::Mines::mine_next))]
 pub fn mine_next(m: Mine, parted: bool, b: u8) -> MineSaid
     ensures { result ≡ mine_next parted m b }
 {

@@ -6,16 +6,16 @@ use mine_state::Mine;
 // Bytes read at a time, so many that their lines fit io's large buffer.
 const READ: usize = 256;
 
-#[derive(Drop)]
+#[derive(Clone, Copy)]
 struct MineTurn {
     game: Mine,
     more: bool,
 }
 
 // Reads once, plays what came and writes its lines; answers whether there may be more.
-fn mine_turn(m: Mine, parted: bool) -> MineTurn {
+fn mine_turn(rt: &(impl Input + Print + Eprint), m: Mine, parted: bool) -> MineTurn {
     let mut input = [0u8; READ];
-    let n = streams::read(&mut input);
+    let n = streams::read(rt, &mut input);
     if n == 0 {
         return MineTurn {
             game: m,
@@ -26,17 +26,17 @@ fn mine_turn(m: Mine, parted: bool) -> MineTurn {
     let run = mine_run(m, parted, &input[..n], &mut out);
     let end = run.end;
     let game = run.game;
-    let more = streams::write(&out[..end]);
+    let more = streams::write(rt, &out[..end]);
     MineTurn { game, more }
 }
 
 // A proved loop has to end, and nothing says that the input does: so it counts its turns down,
 // from a number that no run uses up.
-pub fn play_mines(parted: bool) {
+pub fn play_mines(rt: &(impl Input + Print + Eprint), parted: bool) {
     let mut m = mine::load();
     let mut turns = u64::MAX;
     while turns > 0 {
-        let turn = mine_turn(m, parted);
+        let turn = mine_turn(rt, m, parted);
         if !turn.more {
             return;
         }
@@ -45,16 +45,16 @@ pub fn play_mines(parted: bool) {
     }
 }
 
-#[derive(Drop)]
+#[derive(Clone, Copy)]
 struct CutTurn {
     game: Cutter,
     more: bool,
 }
 
 // Reads once, plays what came and writes its lines; answers whether there may be more.
-fn cut_turn(c: Cutter, parted: bool) -> CutTurn {
+fn cut_turn(rt: &(impl Input + Print + Eprint), c: Cutter, parted: bool) -> CutTurn {
     let mut input = [0u8; READ];
-    let n = streams::read(&mut input);
+    let n = streams::read(rt, &mut input);
     if n == 0 {
         return CutTurn {
             game: c,
@@ -65,15 +65,15 @@ fn cut_turn(c: Cutter, parted: bool) -> CutTurn {
     let run = cut_run(c, parted, &input[..n], &mut out);
     let end = run.end;
     let game = run.game;
-    let more = streams::write(&out[..end]);
+    let more = streams::write(rt, &out[..end]);
     CutTurn { game, more }
 }
 
-pub fn play_cuts(parted: bool) {
+pub fn play_cuts(rt: &(impl Input + Print + Eprint), parted: bool) {
     let mut c = cut_start();
     let mut turns = u64::MAX;
     while turns > 0 {
-        let turn = cut_turn(c, parted);
+        let turn = cut_turn(rt, c, parted);
         if !turn.more {
             return;
         }

@@ -3,6 +3,8 @@
 //
 // stdin: `L9g` and a newline, then oracle/cases/mines_play.txt. stdout: what the oracle's
 // `mines_oracle` prints for it.
-fn main() {
-    lines::play_mines(false);
+#![tactic(auto)]
+
+fn main(rt: HostRuntime) {
+    lines::play_mines(&rt, false);
 }

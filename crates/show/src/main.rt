@@ -3,11 +3,13 @@
 //
 // stdin: oracle/cases/mines_play.txt's play, then a cut in its middle. stdout: what the oracle's
 // `show_oracle mines` and `show_oracle cuts` print for the two parts, one after the other.
+#![tactic(auto)]
+
 use cutter_state::Cutter;
 use lines::{BAR, cut_byte, cut_start, mine_byte};
 use mine_state::Mine;
 
-#[derive(Drop)]
+#[derive(Clone, Copy)]
 struct Plays {
     mine: Mine,
     cut: Cutter,
@@ -58,15 +60,15 @@ fn play(bytes: &[u8]) -> Plays {
     p
 }
 
-fn main() {
+fn main(rt: HostRuntime) {
     let mut input = io::buffer();
-    let n = streams::read_full(&mut input);
+    let n = streams::read_full(&rt, &mut input);
     let p = play(&input[..n]);
     let mut frame = [0u8; frame::FRAME_LEN];
     mine::render(p.mine, &mut frame);
-    if !blocks::put_frame(&frame) {
+    if !blocks::put_frame(&rt, &frame) {
         return;
     }
     cutter::render(p.cut, &mut frame);
-    blocks::put_frame(&frame);
+    blocks::put_frame(&rt, &frame);
 }

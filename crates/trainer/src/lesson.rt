@@ -10,26 +10,26 @@ use cutter_capture::MAX_COMP;
 use cutter_ground::{CB_BLACK, CN, CW, MAX_ENEMIES, Mover};
 use cutter_state::Cutter;
 
-fn say(text: &[u8]) {
-    streams::write(text);
+fn say(rt: &(impl Print + Eprint), text: &[u8]) {
+    streams::write(rt, text);
 }
 
-fn say_number(n: u64) {
-    streams::write_number(n);
+fn say_number(rt: &(impl Print + Eprint), n: u64) {
+    streams::write_number(rt, n);
 }
 
-fn tell_sweep(k: u64, changed: u16, left: u16) {
-    say(b"sweep ");
-    say_number(k);
-    say(b": ");
-    say_number(changed as u64);
-    say(b" changed, ");
-    say_number(left as u64);
-    say(b" numbers\n");
+fn tell_sweep(rt: &(impl Print + Eprint), k: u64, changed: u16, left: u16) {
+    say(rt, b"sweep ");
+    say_number(rt, k);
+    say(rt, b": ");
+    say_number(rt, changed as u64);
+    say(rt, b" changed, ");
+    say_number(rt, left as u64);
+    say(rt, b" numbers\n");
 }
 
 // Sweeps until a sweep changes nothing, and tells of each.
-fn tell_sweeps(grid: &[u8; CN], nums: &mut [u16; CN])
+fn tell_sweeps(rt: &(impl Print + Eprint), grid: &[u8; CN], nums: &mut [u16; CN])
     requires { Numbers grid.now nums.old }
     ensures { Settled grid.now nums.new }
 {
@@ -40,7 +40,7 @@ fn tell_sweeps(grid: &[u8; CN], nums: &mut [u16; CN])
         changed = cutter_sweeps::sweep_once(grid, nums);
         k += 1;
         let left = cutter_sweeps::numbers_left(grid, nums);
-        tell_sweep(k, changed, left);
+        tell_sweep(rt, k, changed, left);
     }
 }
 
@@ -87,31 +87,37 @@ fn creatures_on(nums: &[u16; CN], enemies: [Mover; MAX_ENEMIES], count: usize, n
 }
 
 // What became of a region, from how many came before it and its earliest cell afterwards.
-fn tell_end(before: usize, cell: u8) {
+fn tell_end(rt: &(impl Print + Eprint), before: usize, cell: u8) {
     if MAX_COMP <= before {
-        return say(b", not counted\n");
+        return say(rt, b", not counted\n");
     }
     if cell == CB_BLACK {
-        return say(b", kept\n");
+        return say(rt, b", kept\n");
     }
-    say(b", taken\n");
+    say(rt, b", taken\n");
 }
 
 // The region whose earliest cell is at.
-fn tell_region(at: usize, cells: u16, creatures: u16) {
-    say(b"region ");
-    say_number((at % CW) as u64);
-    say(b" ");
-    say_number((at / CW) as u64);
-    say(b": ");
-    say_number(cells as u64);
-    say(b" cells, ");
-    say_number(creatures as u64);
-    say(b" creatures");
+fn tell_region(rt: &(impl Print + Eprint), at: usize, cells: u16, creatures: u16) {
+    say(rt, b"region ");
+    say_number(rt, (at % CW) as u64);
+    say(rt, b" ");
+    say_number(rt, (at / CW) as u64);
+    say(rt, b": ");
+    say_number(rt, cells as u64);
+    say(rt, b" cells, ");
+    say_number(rt, creatures as u64);
+    say(rt, b" creatures");
 }
 
 // A region begins at each cell that has its own number.
-fn tell_regions(nums: &[u16; CN], enemies: [Mover; MAX_ENEMIES], count: usize, after: &[u8; CN])
+fn tell_regions(
+    rt: &(impl Print + Eprint),
+    nums: &[u16; CN],
+    enemies: [Mover; MAX_ENEMIES],
+    count: usize,
+    after: &[u8; CN],
+)
     requires { (length nums.now ≡ CN) × (length after.now ≡ CN) }
 {
     let mut told: usize = 0;
@@ -121,8 +127,8 @@ fn tell_regions(nums: &[u16; CN], enemies: [Mover; MAX_ENEMIES], count: usize, a
         if nums[at] == number {
             let cells = cells_of(nums, number);
             let creatures = creatures_on(nums, enemies, count, number);
-            tell_region(at, cells, creatures);
-            tell_end(told, after[at]);
+            tell_region(rt, at, cells, creatures);
+            tell_end(rt, told, after[at]);
             told += 1;
         }
         at += 1;
@@ -130,12 +136,12 @@ fn tell_regions(nums: &[u16; CN], enemies: [Mover; MAX_ENEMIES], count: usize, a
 }
 
 // The step that closes c's line makes game.
-pub fn tell_closing(c: Cutter, game: Cutter) {
+pub fn tell_closing(rt: &(impl Print + Eprint), c: Cutter, game: Cutter) {
     let mut grid = c.grid;
     cutter_capture::claim_line(&mut grid);
     let mut nums = [0u16; CN];
-    tell_sweeps(&grid, &mut nums);
+    tell_sweeps(rt, &grid, &mut nums);
     let enemies = c.enemies;
     let after = game.grid;
-    tell_regions(&nums, enemies, c.count, &after);
+    tell_regions(rt, &nums, enemies, c.count, &after);
 }

@@ -4,6 +4,8 @@
 // stdin: a cut along the border that leaves 54 regions, six of them not counted, by 28 sweeps; six
 // more, of 8 regions, of two and of one, by 2 to 9 sweeps; and a byte that is refused. stdout: what
 // the oracle's `trainer_oracle` prints for it.
+#![tactic(auto)]
+
 mod lesson;
 
 use cutter_state::Cutter;
@@ -14,45 +16,45 @@ use text::{LINE, Says};
 // Bytes read at a time.
 const READ: usize = 256;
 
-#[derive(Drop)]
+#[derive(Clone, Copy)]
 struct Turn {
     game: Cutter,
     more: bool,
 }
 
 // The line that `cuts` prints; false where that failed.
-fn tell_line(says: Says, game: Cutter) -> bool {
+fn tell_line(rt: &(impl Print + Eprint), says: Says, game: Cutter) -> bool {
     let mut out = [0u8; LINE];
     let end = text::put_line(says, cut_numbers(game), &mut out, 0);
-    streams::write(&out[..end])
+    streams::write(rt, &out[..end])
 }
 
 // Only a step that closes a cut ends the line.
-fn tell_step(c: Cutter, game: Cutter) {
+fn tell_step(rt: &(impl Print + Eprint), c: Cutter, game: Cutter) {
     if game.trailing {
         return;
     }
     if c.trailing {
-        tell_closing(c, game);
+        tell_closing(rt, c, game);
     }
 }
 
-fn play_byte(c: Cutter, b: u8) -> Turn {
+fn play_byte(rt: &(impl Print + Eprint), c: Cutter, b: u8) -> Turn {
     let said = cut_byte(c, b);
     let says = said.says;
     let game = said.game;
     if b == b's' {
-        tell_step(c, game);
+        tell_step(rt, c, game);
     }
-    let more = tell_line(says, game);
+    let more = tell_line(rt, says, game);
     Turn { game, more }
 }
 
-fn play_bytes(c: Cutter, bytes: &[u8]) -> Turn {
+fn play_bytes(rt: &(impl Print + Eprint), c: Cutter, bytes: &[u8]) -> Turn {
     let mut game = c;
     let mut i: usize = 0;
     while i < bytes.len() {
-        let turn = play_byte(game, bytes[i]);
+        let turn = play_byte(rt, game, bytes[i]);
         if !turn.more {
             return turn;
         }
@@ -63,24 +65,24 @@ fn play_bytes(c: Cutter, bytes: &[u8]) -> Turn {
 }
 
 // Reads once and plays what came; answers whether there may be more.
-fn take_turn(c: Cutter) -> Turn {
+fn take_turn(rt: &(impl Input + Print + Eprint), c: Cutter) -> Turn {
     let mut input = [0u8; READ];
-    let n = streams::read(&mut input);
+    let n = streams::read(rt, &mut input);
     if n == 0 {
         return Turn {
             game: c,
             more: false,
         };
     }
-    play_bytes(c, &input[..n])
+    play_bytes(rt, c, &input[..n])
 }
 
 // To the end of the input; turns are counted down from a number that no run uses up.
-fn main() {
+fn main(rt: HostRuntime) {
     let mut c = cut_start();
     let mut turns = u64::MAX;
     while turns > 0 {
-        let turn = take_turn(c);
+        let turn = take_turn(&rt, c);
         if !turn.more {
             return;
         }
