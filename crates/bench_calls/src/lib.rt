@@ -1,5 +1,7 @@
 // The passes and the ground report that bench/ measures with the check, and the questions, under plain names, and the calls of a tick,
 // a step and a move beside them: so the library is compiled as one for a host is, where calls and passes share the rules.
+#![tactic(auto)]
+
 ghost use Rattle.std.specs.Prelude.{◌≡◌, take};
 ghost use Rattle.mine.specs.Question as MineQuestion;
 ghost use Rattle.cutter.specs.Question.{who_at};
@@ -90,14 +92,14 @@ pub extern "C" fn call_cutter_tick(c: Cutter) -> CutterAnswer
 
 // The lists of a question: the first `count` of these.
 #[repr(C)]
-#[derive(Drop)]
+#[derive(Clone, Copy)]
 pub struct Enemies {
     pub enemies: [Enemy; mine_state::MAX_ENEMIES],
     pub count: usize,
 }
 
 #[repr(C)]
-#[derive(Drop)]
+#[derive(Clone, Copy)]
 pub struct Movers {
     pub enemies: [Mover; cutter_ground::MAX_ENEMIES],
     pub count: usize,
@@ -105,7 +107,7 @@ pub struct Movers {
 
 // Who is there: the index of the first and the number, both 0 for nobody.
 #[repr(C)]
-#[derive(Drop)]
+#[derive(Clone, Copy)]
 pub struct There {
     pub index: usize,
     pub number: usize,

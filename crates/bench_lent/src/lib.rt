@@ -1,5 +1,7 @@
 // What the rules on a state call, on lent arrays, for bench/ to measure. It stands apart from `bench_rules`, since what two exports of one
 // library share is compiled as a call of its own. They have a `requires`, so no host links them. Block Cutter here, on a lent ground.
+#![tactic(auto)]
+
 mod mines;
 
 ghost use Rattle.std.specs.Prelude.{◌≡◌};
@@ -11,7 +13,7 @@ use cutter_moves::{Moved, Step};
 
 // The creatures, as a C struct holds them.
 #[repr(C)]
-#[derive(Drop)]
+#[derive(Clone, Copy)]
 pub struct Movers {
     pub enemies: [Mover; MAX_ENEMIES],
 }

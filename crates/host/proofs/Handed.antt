@@ -1,7 +1,6 @@
 -- What the host is sure of: a state that it got is never refused for a flag, so a call on it gives what the public call gives; and a call that
 -- leaves the game's state leaves the host's, byte for byte. Assumes nothing.
 use mathlib.Core.Path.{◌≡◌, refl, sym, ap, ◌∙◌}
-use Rattle.refusal.specs.Refusal.{refused_or}
 use Rattle.refusal.proofs.Calls.{none_of, answered_by, refused_or-answered}
 use Rattle.mine_state.specs.declared.Mine.{Mine}
 use Rattle.mine.specs.declared.calls.MineAnswer.{MineAnswer}

@@ -19,7 +19,7 @@ use pace::Pace;
 use refusal::Refusal;
 
 #[repr(C)]
-#[derive(Drop)]
+#[derive(Clone, Copy)]
 pub struct HostCutterAnswer {
     pub refusal: Refusal,
     pub searched: u16,
@@ -28,7 +28,7 @@ pub struct HostCutterAnswer {
 }
 
 #[repr(C)]
-#[derive(Drop)]
+#[derive(Clone, Copy)]
 pub struct HostCutterPassed {
     pub refusal: Refusal,
     pub answer: u8,
@@ -40,7 +40,7 @@ pub struct HostCutterPassed {
 
 // The list of a question: the first `count` of these, all of them where it is more.
 #[repr(C)]
-#[derive(Drop)]
+#[derive(Clone, Copy)]
 pub struct HostMovers {
     pub enemies: [Mover; MAX_ENEMIES],
     pub count: usize,

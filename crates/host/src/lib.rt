@@ -1,4 +1,6 @@
 // The exports for C: every public call, with `#[repr(C)]` values, byte slices and numbers. include/sumbadger.h declares them.
+#![tactic(auto)]
+
 mod cutter_calls;
 mod mine_calls;
 mod plain_calls;

@@ -20,14 +20,14 @@ use pace::Pace;
 use refusal::Refusal;
 
 #[repr(C)]
-#[derive(Drop)]
+#[derive(Clone, Copy)]
 pub struct HostMineAnswer {
     pub refusal: Refusal,
     pub game: HostMine,
 }
 
 #[repr(C)]
-#[derive(Drop)]
+#[derive(Clone, Copy)]
 pub struct HostMinePassed {
     pub refusal: Refusal,
     pub answer: u8,
@@ -37,7 +37,7 @@ pub struct HostMinePassed {
 
 // The list of a question: the first `count` of these, all of them where it is more.
 #[repr(C)]
-#[derive(Drop)]
+#[derive(Clone, Copy)]
 pub struct HostEnemies {
     pub enemies: [Enemy; MAX_ENEMIES],
     pub count: usize,

@@ -9,7 +9,7 @@ use pace::Pace;
 
 // Who is at a cell: found 1, the index of the first and the number there, or found 0, index 0 and number 0.
 #[repr(C)]
-#[derive(Drop)]
+#[derive(Clone, Copy)]
 pub struct HostFound {
     pub found: u8,
     pub index: usize,
@@ -18,7 +18,7 @@ pub struct HostFound {
 
 // A part of the caller's own frame.
 #[repr(C)]
-#[derive(Drop)]
+#[derive(Clone, Copy)]
 pub struct HostPage {
     pub start: usize,
     pub length: usize,

@@ -8,7 +8,7 @@ use cutter_state::Cutter;
 use refusal::Refusal;
 
 #[repr(C)]
-#[derive(Drop)]
+#[derive(Clone, Copy)]
 pub struct HostCutter {
     pub grid: [u8; CN],
     pub px: usize,

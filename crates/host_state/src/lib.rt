@@ -1,4 +1,6 @@
 // The states as C holds them, and to and from the games' own: each flag is a byte, 0 or 1.
+#![tactic(auto)]
+
 mod cutter_bytes;
 mod flags;
 mod mine_bytes;

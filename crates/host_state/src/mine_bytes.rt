@@ -10,7 +10,7 @@ use mine_state::{AREA, Enemy, MAX_ENEMIES, Mine};
 use refusal::Refusal;
 
 #[repr(C)]
-#[derive(Drop)]
+#[derive(Clone, Copy)]
 pub struct HostMine {
     pub grid: [u8; AREA],
     pub falling: [u8; AREA],

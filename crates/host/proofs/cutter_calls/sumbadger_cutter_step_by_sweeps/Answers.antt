@@ -1,0 +1,13 @@
+use Rattle.cutter.specs.Calls.{sweeps_call}
+use Rattle.host.proofs.Hosted.{cutter-refused, cutter_handed}
+use Rattle.host.proofs.cutter_calls.sumbadger_cutter_step_by_sweeps.Goals as goal
+
+pub returns-then-no : goal.returns-then-no
+returns-then-no c =
+    cutter-refused c.args.h c.cutter_flags-no.ensures _ c.if-no.true
+
+pub returns : goal.returns
+returns c =
+    let a = c.args in
+    cutter_handed a.h c.cutter_flags-no.ensures sweeps_call c.if-no.false
+    c.cutter_game.ensures c.step_by_sweeps.ensures c.answer_out.ensures

@@ -1,0 +1,13 @@
+use Rattle.mine.specs.Calls.{move_call}
+use Rattle.host.proofs.Hosted.{mine-refused, mine_handed}
+use Rattle.host.proofs.mine_calls.sumbadger_mine_step_player.Goals as goal
+
+pub returns-then-no : goal.returns-then-no
+returns-then-no c =
+    mine-refused c.args.h c.mine_flags-no.ensures _ c.if-no.true
+
+pub returns : goal.returns
+returns c =
+    let a = c.args in
+    mine_handed a.h c.mine_flags-no.ensures (λ s. move_call s a.dir) c.if-no.false
+    c.mine_game.ensures c.step_player.ensures c.answer_out.ensures
