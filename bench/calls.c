@@ -1,6 +1,6 @@
 // The port's exports, called by pointers. A state goes in by value, which is a copy; a state that
-// comes out is written where `out` points, as the backend has it on every machine. `run` lowers this
-// file for x86-64, as the port's bitcode is, and then compiles both for the machine that it runs on.
+// comes out is written where `out` points, as x86-64 has it. `run` compiles this file by the kit's
+// clang, which compiles the port.
 typedef unsigned char u8;
 typedef unsigned short u16;
 typedef unsigned int u32;

@@ -17,6 +17,8 @@ WORD = re.compile(r"[^\s(){}.;,:@\"«»\[\]\\]+")
 DECLARES = re.compile(r"^\s*((?:abbrev|unfoldable|pub|data|record)\s+)*([^\s:(){}.;,@\"\[\]λ]+)\s+:\s*(.*)")
 LIBRARY = "length take drop set get_or append zip_with map replicate filter reverse sum cond not all any count min max number".split()
 SPECIAL = {"get_d_default": "get_or_default", "getD": "get_or", "both-ticks": "both_ticks"}
+# Names that a library has too.
+KEPT = {"and-false", "and-true", "or-false"}
 # Lemmas that the kit's script has respelled already, and that a definition beside them would hide.
 LEMMAS = {"closed_at": "closed_at_lem", "next_level": "next_level_lem", "swept_step": "swept_step_lem"}
 MADE = re.compile(r"^(tie|goal|lts|«?Lts)\b|^\{M : Type 1\} → statement M")
@@ -78,7 +80,7 @@ def main(argv):
             if "/specs/" in path and "-" not in name:
                 defined.add(snake(name))
     to = {}
-    for name in sorted(declared | set(SPECIAL)):
+    for name in sorted((declared | set(SPECIAL)) - KEPT):
         new = respelled(name, defined)
         if new != name:
             to[name] = new
