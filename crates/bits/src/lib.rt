@@ -13,10 +13,8 @@ pub fn column(pat: [u8; 8], gx: usize) -> u8
     ensures { result ≡ number 8 (art_bit pat gx) }
 {
     let mut b: u8 = 0;
-    let mut gy: usize = 0;
-    while gy < TILE {
-        b |= ((pat[gy] >> (TILE - 1 - gx)) & 1) << gy;
-        gy += 1;
+    for (gy, row) in pat.iter().enumerate() {
+        b |= ((*row >> (TILE - 1 - gx)) & 1) << gy;
     }
     b
 }

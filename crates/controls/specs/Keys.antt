@@ -1,5 +1,5 @@
 -- Directions and keys, as both games take them.
-use Rattle.std.specs.Prelude.{Bool, true, false, cond, List, [], ◌∷◌, ℕ, eqb}
+use Rattle.std.specs.Prelude.{Bool, true, false, cond, List, [], ◌∷◌, ℕ, eqb, Option, Some, None}
 
 -- 0 up, 1 right, 2 down, 3 left
 abbrev pub UP : ℕ
@@ -30,12 +30,25 @@ KEY_RIGHT = 9
 abbrev pub KEY_QUIT : ℕ
 KEY_QUIT = 10
 
+-- the direction of a key, where it gives one
+abbrev pub dir_of : ℕ → Option ℕ
+dir_of key =
+    cond (eqb key KEY_UP) (Some UP)
+    (cond (eqb key KEY_DOWN) (Some DOWN)
+    (cond (eqb key KEY_LEFT) (Some LEFT)
+    (cond (eqb key KEY_RIGHT) (Some RIGHT) None)))
+
 -- a game after the keys of a pass, and whether one of them quit
 pub record Played (S : Type 0) : Type 0 where
   pub quit : Bool
   pub game : S
 
 module _ {S : Type 0} (towards : S → ℕ → S) where
+  -- a game after a direction, or without one
+  abbrev pub turned : S → Option ℕ → S
+  turned s None = s
+  turned s (Some d) = towards s d
+
   -- a key gives its direction; others are ignored
   unfoldable pub keyed_by : S → ℕ → S
   keyed_by s key =

@@ -1,4 +1,7 @@
 -- Laws of the search for the first: a turn of a loop over a list, its end, and what is found. Assumes nothing.
+use Rattle.std.specs.Prelude.{Option, None, Some, position}
+use Rattle.std.specs.List.{position_from}
+use Rattle.std.proofs.lemmas.Iterator.Adapters.{position_from-zero}
 use mathlib.Core.Bool.{Bool, true, false, cond, not, ◌||◌}
 use mathlib.Core.List.{List, [], ◌∷◌}
 use mathlib.Core.Path.{◌≡◌, refl, sym, ap, ◌∙◌}
@@ -8,23 +11,22 @@ use lib.Dec.{eqb}
 use lib.ListN.{length, drop}
 use borrow.Author.Tests.{ne_eqb}
 use Rattle.laws.specs.Lists.{any, count}
-use Rattle.found.specs.First.{first_from, first, nobody, index, number}
+use Rattle.found.specs.First.{At, first_from, first, nobody, index, number}
 use Rattle.found.specs.declared.Found.{Found}
-use Rattle.found.specs.declared.Found.TheVariants.{At, Nobody}
 
 -- A loop over a list: the first of what is left is R, the answer that is wanted.
-module _ {A : Type 0} (test : A → Bool) (l : List A) (i : ℕ) {R : Found} where
+module _ {A : Type 0} (test : A → Bool) (l : List A) (i : ℕ) {R : Option Found} where
   pub first-here : {x : A} → drop i l ≡ x ∷ drop (i + 1) l → first_from test i (drop i l) ≡ R → test x ≡ true → At i (count test (drop i l)) ≡ R
   first-here h e t = rw (h, t) (rw (h, t) at e)
 
   pub first_more : {x : A} → drop i l ≡ x ∷ drop (i + 1) l → first_from test i (drop i l) ≡ R → test x ≡ false → first_from test (i + 1) (drop (i + 1) l) ≡ R
   first_more h e t = rw (h, t) at e
 
-  pub first-none : drop i l ≡ [] → first_from test i (drop i l) ≡ R → Nobody ≡ R
+  pub first-none : drop i l ≡ [] → first_from test i (drop i l) ≡ R → None ≡ R
   first-none h e = rw h at e
 
-pick_bound : (b : Bool) (k i c m n : ℕ) (r : Found) → (r ≡ At i m → i < k + 1 + n) → cond b (At k c) r ≡ At i m → i < k + suc n
-pick_bound true k i c m n r f e = let q : k ≡ i = cc in omega arith
+pick_bound : (b : Bool) (k i c m n : ℕ) (r : Option Found) → (r ≡ At i m → i < k + 1 + n) → cond b (At k c) r ≡ At i m → i < k + suc n
+pick_bound true k i c m n r f e = let q : k ≡ i = ap index e in omega arith
 pick_bound false k i c m n r f e = omega (arith, f e)
 
 from_bound : {A : Type 0} (test : A → Bool) (k i m : ℕ) (l : List A) → first_from test k l ≡ At i m → i < k + length l
@@ -41,7 +43,7 @@ from_least test k i m [] e = let z : ◌≡◌ {A = ℕ} 0 1 = cc in omega arith
 from_least test k i m (a ∷ l) e = go (test a) (from_least test (k + 1) i m l) e
   where
     go : (b : Bool) → (first_from test (k + 1) l ≡ At i m → k + 1 ≤ i) → cond b (At k (count test (a ∷ l))) (first_from test (k + 1) l) ≡ At i m → k ≤ i
-    go true f q = let z : k ≡ i = cc in omega arith
+    go true f q = let z : k ≡ i = ap index q in omega arith
     go false f q = omega (arith, f q)
 
 -- nobody is found where none passes, and only there
@@ -57,8 +59,8 @@ pub nobody-any : {A : Type 0} (test : A → Bool) (l : List A) → nobody (first
 nobody-any test l = from_nobody test 0 l
 
 -- the answer of an index and a number
-abbrev numbered : ℕ → ℕ → Found
-numbered i zero = Nobody
+abbrev numbered : ℕ → ℕ → Option Found
+numbered i zero = None
 numbered i (suc n) = At i (suc n)
 
 numbered-number : (i n : ℕ) → number (numbered i n) ≡ n
@@ -90,3 +92,20 @@ number-count test l = from_number test 0 l
 -- and nobody is told where that is zero, and only there
 pub nobody_zero : {A : Type 0} (test : A → Bool) (l : List A) → nobody (first test l) ≡ eqb (count test l) 0
 nobody_zero test l = ap nobody (from_numbered test 0 l) ∙ numbered-nobody (index (first test l)) (count test l)
+
+-- who is found where a search tells the index, and another how many pass
+abbrev pub told_at : Option ℕ → ℕ → Option Found
+told_at (Some i) n = At i n
+told_at None n = None
+
+from_position : {A : Type 0} (test : A → Bool) (k : ℕ) (l : List A) → told_at (position_from test k l) (count test l) ≡ first_from test k l
+from_position test k [] = refl
+from_position test k (a ∷ l) = go (test a) (from_position test (k + 1) l)
+  where
+    go : (b : Bool) → told_at (position_from test (k + 1) l) (count test l) ≡ first_from test (k + 1) l
+        → let n = cond b (suc (count test l)) (count test l) in told_at (cond b (Some k) (position_from test (k + 1) l)) n ≡ cond b (At k n) (first_from test (k + 1) l)
+    go true e = refl
+    go false e = e
+
+pub first_position : {A : Type 0} (test : A → Bool) (l : List A) → told_at (position test l) (count test l) ≡ first test l
+first_position test l = ap (λ (r : Option ℕ). told_at r (count test l)) (position_from-zero test l) ∙ from_position test 0 l

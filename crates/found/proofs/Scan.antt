@@ -1,4 +1,5 @@
 -- Laws of a scan: from turn to turn what will be told is the same. Assumes nothing.
+use Rattle.std.specs.Prelude.{Option}
 use mathlib.Core.Bool.{Bool, true, false, cond}
 use mathlib.Core.List.{List, ◌∷◌}
 use mathlib.Core.Path.{◌≡◌, refl, sym, ap, subst, ◌∙◌}
@@ -9,10 +10,9 @@ use lib.ListN.{length, get_or, drop}
 use borrow.Author.Tests.{ne_eqb}
 use Rattle.laws.specs.Lists.{bit, count}
 use Rattle.laws.proofs.Lists.{drop-one, drop_end}
-use Rattle.found.specs.First.{first_from}
+use Rattle.found.specs.First.{At, first_from}
 use Rattle.found.specs.CodeTally.{counted, told_of, to_tell}
 use Rattle.found.specs.declared.Found.{Found}
-use Rattle.found.specs.declared.Found.TheVariants.{At}
 use Rattle.found.specs.declared.Tally.{Tally}
 
 no_more : (n : ℕ) → n + 0 ≡ n
@@ -33,12 +33,12 @@ module _ {A : Type 0} (test : A → Bool) where
   tally-more t a l = more test l t.number t.first (test a) (eqb t.number 0) refl
 
   -- a turn of a loop over a list
-  pub tally_turn : (l : List A) (t : Tally) (i : ℕ) (d : A) {R : Found} → i < length l
+  pub tally_turn : (l : List A) (t : Tally) (i : ℕ) (d : A) {R : Option Found} → i < length l
       → to_tell test t (drop i l) ≡ R → to_tell test (counted t (test (get_or l i d))) (drop (i + 1) l) ≡ R
   tally_turn l t i d h q = tally-more t (get_or l i d) (drop (i + 1) l) ∙ (rw (drop-one l i d h) at q)
 
   -- its end
-  pub tally_end : (l : List A) (t : Tally) (i : ℕ) {R : Found} → length l ≡ i → to_tell test t (drop i l) ≡ R → told_of t ≡ R
+  pub tally_end : (l : List A) (t : Tally) (i : ℕ) {R : Option Found} → length l ≡ i → to_tell test t (drop i l) ≡ R → told_of t ≡ R
   tally_end l t i h q = rw (drop_end l i h, no_more t.number) at q
 
 -- neither number is above how many were looked at

@@ -1,6 +1,6 @@
 -- Drawing on a frame byte by byte, said of its pixels. Assumes nothing.
 use mathlib.Core.Path.{◌≡◌, refl, sym, ap, ap₂, ◌∙◌}
-use mathlib.Core.Bool.{Bool, true, false, ◌||◌, ◌&&◌, not, xor, or_assoc, or-false, and-or_distrib_left}
+use mathlib.Core.Bool.{Bool, true, false, ◌||◌, ◌&&◌, not, xor, or_assoc, and-or_distrib_left}
 use mathlib.Core.List.{List}
 use mathlib.Core.Logic.{◌⊎◌, inl, inr}
 use Prim.Native.Nat.{ℕ, ◌+◌, ◌-◌, ◌*◌, ◌/◌, ◌%◌, ◌≤◌, ◌<◌}
@@ -89,16 +89,9 @@ part_all : (o w t : Bool) → t ≡ true → (o || (w && t)) ≡ (o || w)
 part_all o true t e = rw e
 part_all o false t e = refl
 
-part_none : (o w t : Bool) → t ≡ false → o ≡ (o || (w && t))
-part_none o true t e = rw e (sym (or-false o))
-part_none o false t e = sym (or-false o)
-
 module _ (old w : ℕ → ℕ → Bool) (n : ℕ → ℕ → ℕ) where
   abbrev pub parts : ℕ → ℕ → ℕ → Bool
   parts k x y = old x y || (w x y && ltb (n x y) k)
-
-  pub parts_none : pack old ≡ pack (parts 0)
-  parts_none = pack_ext _ _ (λ x y hx hy. part_none (old x y) (w x y) _ (le-ltb (n x y) 0 (omega arith)))
 
   pub parts_more : (k : ℕ) → pack (λ x y. parts k x y || (w x y && eqb (n x y) k)) ≡ pack (parts (k + 1))
   parts_more k = pack_ext _ _ (λ x y hx hy. part_more (old x y) (w x y) (n x y) k)

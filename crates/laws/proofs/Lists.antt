@@ -1,5 +1,5 @@
 -- Lists from an index on, and the turns of a loop that tests, counts or rewrites each element. Assumes nothing.
-use mathlib.Core.Bool.{Bool, true, false, ◌&&◌, ◌||◌, not, and_assoc, or_assoc, or-false, or-true}
+use mathlib.Core.Bool.{Bool, cond, true, false, ◌&&◌, ◌||◌, not, and_assoc, or_assoc, or-false, or-true}
 use mathlib.Core.List.{List, [], ◌∷◌, ◌++◌, map, append-nil}
 use mathlib.Core.Path.{◌≡◌, refl, ap, sym, ◌∙◌}
 use Prim.Native.Nat.{ℕ, zero, suc, ◌+◌, ◌-◌, ◌<◌, ◌≤◌}
@@ -8,6 +8,7 @@ use native.Mathlib.Numerals.{add-one}
 use native.Mathlib.Omega.{arith}
 use lib.ListN.{length, get_or, take, drop, set, drop_of_length-le, length-map, length-take, replicate, take-append-drop}
 use lib.Seq.{drop-cons, get_or-take, take-suc, take-suc-set, drop-set-lt, append_snoc, take_all}
+use Rattle.std.specs.Prelude.{fold, count_by}
 use Rattle.laws.specs.Lists.{all, any, count}
 use Rattle.laws.proofs.Choice.{and_left, and_right, and_both, or_left, or_right}
 
@@ -175,3 +176,15 @@ all_weaken f g h (x ∷ l) a = and_both (g x) (all g l) (h x (and_left (f x) (al
 pub all_replicate : {A : Type 0} (f : A → Bool) (n : ℕ) (a : A) → f a ≡ true → all f (replicate n a) ≡ true
 all_replicate f zero a e = refl
 all_replicate f (suc n) a e = and_both (f a) (all f (replicate n a)) e (all_replicate f n a e)
+
+-- the count of this library is the kit's
+pub fold-count : {A : Type 0} (f : A → Bool) (l : List A) (n : ℕ) → fold (λ a x. a + cond (f x) 1 0) n l ≡ n + count f l
+fold-count f [] n = omega arith
+fold-count f (x ∷ l) n = fold-count f l (n + cond (f x) 1 0) ∙ lem (f x)
+  where
+    lem : (b : Bool) → n + cond b 1 0 + count f l ≡ n + cond b (suc (count f l)) (count f l)
+    lem true = omega arith
+    lem false = omega arith
+
+pub count-is : {A : Type 0} (f : A → Bool) (l : List A) → count_by f l ≡ count f l
+count-is f l = omega (arith, fold-count f l 0)

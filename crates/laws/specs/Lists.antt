@@ -1,5 +1,7 @@
 -- Plain functions on lists, over any element type, and loops in a stated order.
-use Rattle.std.specs.Prelude.{Bool, true, false, cond, ◌&&◌, ◌||◌, List, [], ◌∷◌, ◌++◌, ℕ, zero, suc, ◌+◌, eqb}
+-- the test holds at every element, at some; the elements that pass it, in order
+pub use Rattle.std.specs.List.{list_all as all, list_any as any, filter}
+use Rattle.std.specs.Prelude.{Bool, true, false, cond, ◌&&◌, List, [], ◌∷◌, ◌++◌, ℕ, zero, suc, ◌+◌, eqb}
 
 -- 1 for true, 0 for false
 abbrev pub bit : Bool → ℕ
@@ -12,25 +14,10 @@ all_below zero p = true
 all_below (suc n) p = p n && all_below n p
 
 module _ {A : Type 0} where
-  -- the test holds at every element
-  abbrev pub all : (A → Bool) → List A → Bool
-  all f [] = true
-  all f (x ∷ xs) = f x && all f xs
-
-  -- the test holds at some element
-  abbrev pub any : (A → Bool) → List A → Bool
-  any f [] = false
-  any f (x ∷ xs) = f x || any f xs
-
   -- how many elements pass the test
   abbrev pub count : (A → Bool) → List A → ℕ
   count f [] = zero
   count f (x ∷ xs) = cond (f x) (suc (count f xs)) (count f xs)
-
-  -- the elements that pass the test, in order
-  abbrev pub filter : (A → Bool) → List A → List A
-  filter f [] = []
-  filter f (x ∷ xs) = cond (f x) (x ∷ filter f xs) (filter f xs)
 
   -- the first n values of f
   unfoldable pub table : ℕ → (ℕ → A) → List A

@@ -50,8 +50,8 @@ pub fn both_ticks(time: u32, first: u32, second: u32, interval: u32, interval2: 
     let one = due(time, first, interval);
     let two = due(time, second, interval2);
     Ticks {
-        one: one,
-        two: two,
+        one,
+        two,
         first: mark_after(one, time, first),
         second: mark_after(two, time, second),
     }

@@ -3,11 +3,10 @@ use mathlib.Core.List.{List, [], ◌∷◌}
 use mathlib.Core.Path.{◌≡◌, refl}
 use Prim.Native.Nat.{ℕ}
 use lib.Dec.{eqb}
-use Rattle.refusal.specs.declared.Refusal.{Refusal}
-use Rattle.refusal.specs.Refusal.{NONE, TOO_MANY, WRONG_CELL, SPARE_SLOT, unless}
+use Rattle.refusal.specs.Refusal.{Checked, NONE, TOO_MANY, WRONG_CELL, SPARE_SLOT, unless}
 use Rattle.refusal.specs.Faults.{first_fault, fault_in}
 
-abbrev over : List ℕ → ℕ → Refusal
+abbrev over : List ℕ → ℕ → Checked
 over slots n = fault_in 4 (λ i a. unless (eqb a 1) (WRONG_CELL i)) (λ a. eqb a 0) slots n
 
 pub record Order : Type 0 where

@@ -8,33 +8,32 @@ use native.Mathlib.Nat.{le_of_suc-le-suc, not-suc-le-zero, zero-add}
 use native.Mathlib.Omega.{arith}
 use lib.Dec.{leb, eqb}
 use lib.ListN.{length, get_or, take, drop, length-take, length-drop}
-use borrow.Author.Tests.{eqb-true, leb-true, eq-eqb, ne_eqb, le-leb, lt-leb}
+use borrow.Author.Tests.{eqb-true, leb-true, eq-eqb, le-leb, lt-leb}
 use lib.Seq.{get_or-take, get_or-drop, take-take, take-add, drop_at, length-take-le}
 use Rattle.laws.specs.Lists.{all}
 use Rattle.laws.proofs.Choice.{bool_cases, and_left, and_right}
-use Rattle.refusal.specs.declared.Refusal.{Refusal}
-use Rattle.refusal.specs.Refusal.{NONE, TOO_MANY, SPARE_SLOT, clear, unless, ◌then◌}
+use Rattle.refusal.specs.Refusal.{Checked, number_given, NONE, TOO_MANY, SPARE_SLOT, clear, unless, ◌then◌}
 use Rattle.refusal.specs.Faults.{first_fault, spare_fault, room_for, fault_in}
-use Rattle.refusal.proofs.Checks.{clear-unless, clear_then, then_given, unless_given}
+use Rattle.refusal.proofs.Checks.{clear-unless, clear_then, clear_of, unclear, then_given, unless_given}
 
 -- ---- over a list
 
-module _ {A : Type 0} (fault : ℕ → A → Refusal) where
+module _ {A : Type 0} (fault : ℕ → A → Checked) where
   -- A loop that looks for the first: over the elements from i on it is R.
-  module _ (l : List A) (i : ℕ) {R : Refusal} (e : first_fault fault i (drop i l) ≡ R) where
+  module _ (l : List A) (i : ℕ) {R : Checked} (e : first_fault fault i (drop i l) ≡ R) where
     pub fault_end : drop i l ≡ [] → NONE ≡ R
     unfolding first_fault
     fault_end h = rw h at e
 
     -- where the element at i has the fault r
-    module _ {a : A} (h : drop i l ≡ a ∷ drop (i + 1) l) {r : Refusal} (q : r ≡ fault i a) where
-      pub fault_more : r.number ≡ 0 → first_fault fault (i + 1) (drop (i + 1) l) ≡ R
+    module _ {a : A} (h : drop i l ≡ a ∷ drop (i + 1) l) {r : Checked} (q : r ≡ fault i a) where
+      pub fault_more : number_given r ≡ 0 → first_fault fault (i + 1) (drop (i + 1) l) ≡ R
       unfolding first_fault
-      fault_more z = rw (h, sym q, eq-eqb r.number 0 z) at e
+      fault_more z = rw (h, sym q, clear_of r z) at e
 
-      pub fault_found : (r.number ≡ 0 → ⊥) → r ≡ R
+      pub fault_found : (number_given r ≡ 0 → ⊥) → r ≡ R
       unfolding first_fault
-      fault_found z = rw (h, sym q, ne_eqb r.number 0 z) at e
+      fault_found z = rw (h, sym q, unclear r z) at e
 
   -- there is none among k + 1 elements where there is none among k, and none at the next
   pub clear-more : (l : List A) (i k : ℕ) (d : A) → k < length l
@@ -106,7 +105,7 @@ module _ {A : Type 0} (blank : A → Bool) where
   clear-spare = clear-each (spare_fault blank) blank (λ i a. clear-unless (blank a) (SPARE_SLOT i) refl)
 
   -- A loop that looks for the first of them.
-  module _ (l : List A) (i : ℕ) {R : Refusal} (e : first_fault (spare_fault blank) i (drop i l) ≡ R) {a : A} (h : drop i l ≡ a ∷ drop (i + 1) l) where
+  module _ (l : List A) (i : ℕ) {R : Checked} (e : first_fault (spare_fault blank) i (drop i l) ≡ R) {a : A} (h : drop i l ≡ a ∷ drop (i + 1) l) where
     pub spare_more : blank a ≡ true → first_fault (spare_fault blank) (i + 1) (drop (i + 1) l) ≡ R
     unfolding first_fault
     spare_more b = rw (h, b) at e
@@ -115,7 +114,7 @@ module _ {A : Type 0} (blank : A → Bool) where
     unfolding first_fault
     spare_found b = rw (h, b) at e
 
-module _ {A : Type 0} (most : ℕ) (fault : ℕ → A → Refusal) (blank : A → Bool) (slots : List A) (n : ℕ) where
+module _ {A : Type 0} (most : ℕ) (fault : ℕ → A → Checked) (blank : A → Bool) (slots : List A) (n : ℕ) where
   -- what there is room for
   abbrev Fits : Type 0
   Fits = (length slots ≡ most) × (n ≤ most)
@@ -144,17 +143,17 @@ module _ {A : Type 0} (most : ℕ) (fault : ℕ → A → Refusal) (blank : A �
   unfolding fault_in
   in_many h = rw (lt-leb n most h, and-false)
 
-  module _ (full : length slots ≡ most) (few : n ≤ most) {r : Refusal} (e : r ≡ first_fault fault 0 (take n slots)) where
-    pub in_creature : (r.number ≡ 0 → ⊥) → r ≡ fault_in most fault blank slots n
+  module _ (full : length slots ≡ most) (few : n ≤ most) {r : Checked} (e : r ≡ first_fault fault 0 (take n slots)) where
+    pub in_creature : (number_given r ≡ 0 → ⊥) → r ≡ fault_in most fault blank slots n
     unfolding fault_in
-    in_creature z = rw (eq-eqb (length slots) most full, le-leb n most few, sym e, ne_eqb r.number 0 z)
+    in_creature z = rw (eq-eqb (length slots) most full, le-leb n most few, sym e, unclear r z)
 
-    pub in_slot : r.number ≡ 0 → {s : Refusal} → s ≡ first_fault (spare_fault blank) n (drop n slots) → s ≡ fault_in most fault blank slots n
+    pub in_slot : number_given r ≡ 0 → {s : Checked} → s ≡ first_fault (spare_fault blank) n (drop n slots) → s ≡ fault_in most fault blank slots n
     unfolding fault_in
-    in_slot z q = rw (eq-eqb (length slots) most full, le-leb n most few, sym e, eq-eqb r.number 0 z) q
+    in_slot z q = rw (eq-eqb (length slots) most full, le-leb n most few, sym e, clear_of r z) q
 
   -- what holds of each fault of the slots, where it is the first, holds of the one that is given
-  module _ (P : Refusal → Type 0) (d : A)
+  module _ (P : Checked → Type 0) (d : A)
       (many : room_for most slots n ≡ false → P TOO_MANY)
       (one : Fits → (i : ℕ) → i < n → clear (first_fault fault 0 (take i slots)) ≡ true → clear (fault i (get_or slots i d)) ≡ false → P (fault i (get_or slots i d)))
       (spare : Fits → clear (first_fault fault 0 (take n slots)) ≡ true → (i : ℕ) → n ≤ i → i < most

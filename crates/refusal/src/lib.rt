@@ -1,40 +1,98 @@
-// Refusals: the number that documents 01 and 02 give a bad input, and its place. A call that is not refused has NONE.
+// Refusals: what documents 01 and 02 call a bad input, with the number that they give it and its place.
 #![tactic(auto)]
 
+ghost use Rattle.std.specs.Prelude.{◌≡◌};
+ghost use Rattle.refusal.specs.Refusal.{number_of, place_of, numbered_of};
+
+// Why a call is refused. A cause that a creature or a slot has carries its index.
+#[derive(Clone, Copy, Debug, PartialEq, Eq)]
+pub enum Refusal {
+    // a cell code, the ring, or line cells against trailing
+    Cells,
+    // the player's place, or the Cutter direction
+    Player,
+    // coins, needed, lives or level
+    Numbers,
+    // a direction command above 3
+    Command,
+    // in a picture, a frame that isn't 1,024 bytes
+    Frame,
+    // draws: wrong number, or one out of range
+    Draws,
+    // a new level is due and the level is 65,535
+    LastLevel,
+    // too many creatures
+    TooMany,
+    // a creature is off the grid
+    OffGrid(usize),
+    // on a wrong cell
+    WrongCell(usize),
+    // its direction or velocity is wrong
+    Heading(usize),
+    // it shares a Mine cell with an earlier creature
+    SharedCell(usize),
+    // a slot past the count isn't zeros
+    SpareSlot(usize),
+}
+
+impl Refusal {
+    // The number that the documents give it.
+    pub fn number(self) -> u8
+        ensures { result ≡ number_of self }
+    {
+        match self {
+            Refusal::Cells => 1,
+            Refusal::Player => 2,
+            Refusal::Numbers => 4,
+            Refusal::Command => 5,
+            Refusal::Frame => 6,
+            Refusal::Draws => 7,
+            Refusal::LastLevel => 8,
+            Refusal::TooMany => 31,
+            Refusal::OffGrid(_) => 32,
+            Refusal::WrongCell(_) => 33,
+            Refusal::Heading(_) => 34,
+            Refusal::SharedCell(_) => 35,
+            Refusal::SpareSlot(_) => 36,
+        }
+    }
+
+    // The index of the creature or the slot; 0 where there is none.
+    pub fn at(self) -> usize
+        ensures { result ≡ place_of self }
+    {
+        match self {
+            Refusal::OffGrid(i)
+            | Refusal::WrongCell(i)
+            | Refusal::Heading(i)
+            | Refusal::SharedCell(i)
+            | Refusal::SpareSlot(i) => i,
+            _ => 0,
+        }
+    }
+}
+
+// What a check gives: nothing, or why it refuses.
+pub type Checked = Result<(), Refusal>;
+
+// What a check gives, as numbers: for C and for traces. Both are 0 where it refuses nothing.
 #[repr(C)]
-#[derive(Clone, Copy)]
-pub struct Refusal {
+#[derive(Clone, Copy, Debug, PartialEq, Eq)]
+pub struct Numbered {
     pub number: u8,
-    // The index of a creature or a slot; 0 where a number has no place.
     pub at: usize,
 }
 
-pub const NONE: Refusal = Refusal { number: 0, at: 0 };
-// a cell code, the ring, or line cells against trailing
-pub const CELLS: Refusal = Refusal { number: 1, at: 0 };
-// the player's place, or the Cutter direction
-pub const PLAYER: Refusal = Refusal { number: 2, at: 0 };
-// coins, needed, lives or level
-pub const NUMBERS: Refusal = Refusal { number: 4, at: 0 };
-// a direction command above 3
-pub const COMMAND: Refusal = Refusal { number: 5, at: 0 };
-// in a picture, a frame that isn't 1,024 bytes
-pub const FRAME: Refusal = Refusal { number: 6, at: 0 };
-// draws: wrong number, or one out of range
-pub const DRAWS: Refusal = Refusal { number: 7, at: 0 };
-// a new level is due and the level is 65,535
-pub const LAST_LEVEL: Refusal = Refusal { number: 8, at: 0 };
-// in place of 3, too many creatures
-pub const TOO_MANY: Refusal = Refusal { number: 31, at: 0 };
+impl From<Checked> for Numbered {
+    ghost from_gives = { λ c n. n ≡ numbered_of c };
 
-// The numbers of a creature or a slot, whose index is their place.
-// off the grid
-pub const OFF_GRID: u8 = 32;
-// on a wrong cell
-pub const WRONG_CELL: u8 = 33;
-// direction or velocity
-pub const HEADING: u8 = 34;
-// a Mine cell shared with an earlier creature
-pub const SHARED_CELL: u8 = 35;
-// a slot past the count that isn't zeros
-pub const SPARE_SLOT: u8 = 36;
+    fn from(checked: Checked) -> Numbered {
+        match checked {
+            Ok(()) => Numbered { number: 0, at: 0 },
+            Err(no) => Numbered {
+                number: no.number(),
+                at: no.at(),
+            },
+        }
+    }
+}

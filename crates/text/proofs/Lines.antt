@@ -5,9 +5,10 @@ use Prim.Native.Nat.{ℕ, ◌+◌, ◌*◌, ◌<◌, ◌≤◌}
 use native.Mathlib.Omega.{arith}
 use lib.Dec.{ltb}
 use lib.ListN.{length, drop, get_or, set, length-append, drop_of_length-le}
+use Rattle.refusal.specs.declared.Refusal.{Refusal}
+use Rattle.refusal.specs.Refusal.{number_of, place_of}
 use Rattle.laws.proofs.Lists.{drop-one}
 use Rattle.laws.proofs.Choice.{cond_both}
-use Rattle.refusal.specs.declared.Refusal.{Refusal}
 use Rattle.text.specs.declared.Says.{Says}
 use Rattle.text.specs.declared.Says.TheVariants.{Nothing, Numbers, Refused}
 use Rattle.text.specs.Text.{SPACE, NEWLINE, DIGITS, NUMBERS, LINE, decimal, further, numbers_line, refused_line, line_of, PLACED, place_line}
@@ -44,8 +45,8 @@ length-further (n ∷ ns) = simp length-append (omega (arith, length-decimal DIG
 length-place : (r : Refusal) → length (place_line r) ≤ PLACED
 unfolding place_line
 length-place r =
-    cond_both (λ (l : List ℕ). length l ≤ PLACED) (ltb r.number 31) _ _ (λ _. omega arith)
-    (λ _. simp length-append (omega (arith, length-decimal DIGITS r.at)))
+    cond_both (λ (l : List ℕ). length l ≤ PLACED) (ltb (number_of r) 31) _ _ (λ _. omega arith)
+    (λ _. simp length-append (omega (arith, length-decimal DIGITS (place_of r))))
 
 -- a line has at most 147 bytes
 pub length-line : (says : Says) (ns : List ℕ) → length ns ≡ NUMBERS → length (line_of says ns) ≤ LINE
@@ -53,4 +54,4 @@ unfolding line_of numbers_line refused_line
 length-line Nothing ns e = omega arith
 length-line Numbers [] e = omega arith
 length-line Numbers (n ∷ ns) e = simp length-append (omega (arith, length-decimal DIGITS n, length-further ns))
-length-line (Refused r) ns e = simp length-append (omega (arith, length-decimal DIGITS r.number, length-place r))
+length-line (Refused r) ns e = simp length-append (omega (arith, length-decimal DIGITS (number_of r), length-place r))

@@ -1,9 +1,10 @@
 -- Document 01, 'Programs and cases': the lines of the programs, as bytes.
+use Rattle.refusal.specs.declared.Refusal.{Refusal}
+use Rattle.refusal.specs.Refusal.{number_of, place_of}
 use Rattle.std.specs.Prelude.{cond, List, [], ◌∷◌, ◌++◌, ℕ, zero, suc, ◌+◌, ◌/◌, ◌%◌, ltb}
 use Prim.Native.Char.{code}
 use Prim.Native.String.{String}
 use Prim.Native.String as S
-use Rattle.refusal.specs.declared.Refusal.{Refusal}
 use Rattle.text.specs.declared.Says.{Says}
 use Rattle.text.specs.declared.Says.TheVariants.{Nothing, Numbers, Refused}
 
@@ -55,11 +56,11 @@ numbers_line (n ∷ ns) = decimal n ++ further ns
 
 -- ` at ` and the place of a number from 31 on; others have none
 unfoldable pub place_line : Refusal → List ℕ
-place_line r = cond (ltb r.number 31) (NEWLINE ∷ []) (bytes_of " at " ++ decimal r.at ++ NEWLINE ∷ [])
+place_line r = cond (ltb (number_of r) 31) (NEWLINE ∷ []) (bytes_of " at " ++ decimal (place_of r) ++ NEWLINE ∷ [])
 
 -- `refused` and the number, with its place
 unfoldable pub refused_line : Refusal → List ℕ
-refused_line r = bytes_of "refused " ++ decimal r.number ++ place_line r
+refused_line r = bytes_of "refused " ++ decimal (number_of r) ++ place_line r
 
 -- the line for what is said
 unfoldable pub line_of : Says → List ℕ → List ℕ

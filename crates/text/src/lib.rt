@@ -16,6 +16,9 @@ pub const DIGITS: usize = 20;
 // The most bytes of a line: its numbers with a byte behind each.
 pub const LINE: usize = NUMBERS * (DIGITS + 1);
 
+// The refusals from this number on have a place.
+const CAUSES: u8 = 31;
+
 // What a program says to a byte.
 #[derive(Clone, Copy)]
 pub enum Says {
@@ -29,12 +32,9 @@ pub fn put(bytes: &[u8], out: &mut [u8], at: usize) -> usize
     requires { at + length bytes.now ≤ length out.old }
     ensures { Puts bytes.now at out.old result out.new }
 {
-    let mut i: usize = 0;
-    while i < bytes.len() {
-        out[at + i] = bytes[i];
-        i += 1;
-    }
-    at + i
+    let end = at + bytes.len();
+    out[at..end].copy_from_slice(bytes);
+    end
 }
 
 pub fn put_number(n: u64, out: &mut [u8], at: usize) -> usize
@@ -51,11 +51,9 @@ fn put_numbers(numbers: [u64; NUMBERS], out: &mut [u8], at: usize) -> usize
     ensures { Puts (numbers_line numbers) at out.old result out.new }
 {
     let mut end = put_number(numbers[0], out, at);
-    let mut i: usize = 1;
-    while i < NUMBERS {
+    for n in &numbers[1..] {
         out[end] = b' ';
-        end = put_number(numbers[i], out, end + 1);
-        i += 1;
+        end = put_number(*n, out, end + 1);
     }
     out[end] = b'\n';
     end + 1
@@ -66,12 +64,12 @@ fn put_place(no: Refusal, out: &mut [u8], at: usize) -> usize
     requires { at + PLACED ≤ length out.old }
     ensures { Puts (place_line no) at out.old result out.new }
 {
-    if no.number < refusal::TOO_MANY.number {
+    if no.number() < CAUSES {
         out[at] = b'\n';
         return at + 1;
     }
     let place = put(b" at ", out, at);
-    let end = put_number(no.at as u64, out, place);
+    let end = put_number(no.at() as u64, out, place);
     out[end] = b'\n';
     end + 1
 }
@@ -81,7 +79,7 @@ fn put_refused(no: Refusal, out: &mut [u8], at: usize) -> usize
     ensures { Puts (refused_line no) at out.old result out.new }
 {
     let word = put(b"refused ", out, at);
-    let end = put_number(no.number as u64, out, word);
+    let end = put_number(no.number() as u64, out, word);
     put_place(no, out, end)
 }
 

@@ -6,12 +6,8 @@ use Rattle.bits.proofs.column.Goals as goal
 
 pub loop-gy-init : goal.loop-gy-init
 unfolding number
-loop-gy-init c = (omega arith, refl)
+loop-gy-init c = refl
 
 pub loop-gy-preserved : goal.loop-gy-preserved
 loop-gy-preserved c =
-    let gy = c.loop-gy.gy in
-    let f = art_bit c.args.pat c.args.gx in (
-      omega arith,
-      rw (c.loop-gy.invariant.1, masked) (number_more gy f (omega arith)),
-    )
+    rw (c.loop-gy.invariant, masked) (number_more c.loop-gy.gy (art_bit c.args.pat c.args.gx) (omega arith))

@@ -6,10 +6,7 @@ use Rattle.text.specs.Text.{NUMBERS, DIGITS, further}
 use Rattle.text.specs.CodePuts.{Puts}
 use Rattle.text.proofs.put_numbers.Given as goal
 
-abbrev pub invariant-loop-i : goal.invariant-loop-i
-invariant-loop-i l =
-    (1 ≤ l.i) × (l.i ≤ NUMBERS) × (l.end + (DIGITS + 1) * (NUMBERS - l.i) + 1 ≤ length l.out) × (length l.out ≡ length l.initial.out) ×
-    ((n : ℕ) (k : List ℕ) → Puts (further (drop l.i l.numbers)) l.end l.out n k → Puts (further (drop 1 l.numbers)) l.initial.end l.initial.out n k)
-
-abbrev pub decreases-loop-i : goal.decreases-loop-i
-decreases-loop-i l = NUMBERS - l.i
+abbrev pub invariant-loop-n : goal.invariant-loop-n
+invariant-loop-n l =
+    (l.end + (DIGITS + 1) * (NUMBERS - (l.n-index + 1)) + 1 ≤ length l.out) × (length l.out ≡ length l.initial.out) ×
+    ((n : ℕ) (k : List ℕ) → Puts (further (drop l.n-index (drop 1 l.fn.numbers))) l.end l.out n k → Puts (further (drop 1 l.fn.numbers)) l.initial.end l.initial.out n k)

@@ -1,3 +1,4 @@
+use mathlib.Core.Path.{sym}
 use native.Mathlib.Omega.{arith}
 use Rattle.text.specs.Text.{refused_line}
 use Rattle.text.proofs.Puts.{puts-both}
@@ -11,4 +12,4 @@ put_place-requires c =
 
 pub returns : goal.returns
 unfolding refused_line
-returns c = puts-both c.put-word.ensures (puts-both c.put_number-end.ensures c.put_place.ensures)
+returns c = rw (sym c.number.ensures) (puts-both c.put-word.ensures (puts-both c.put_number-end.ensures c.put_place.ensures))
