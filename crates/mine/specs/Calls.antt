@@ -1,7 +1,6 @@
 -- The promises of Block Mine's calls on a state: refused by a number and the state as it came, or answered.
 use Rattle.std.specs.Prelude.{ℕ, leb}
-use Rattle.refusal.specs.declared.Refusal.{Refusal}
-use Rattle.refusal.specs.Refusal.{NONE, COMMAND, unless, ◌then◌, refused_or}
+use Rattle.refusal.specs.Refusal.{Checked, NONE, COMMAND, unless, ◌then◌, refused_or}
 use Rattle.mine_state.specs.declared.Mine.{Mine}
 use Rattle.mine_state.specs.WellFormed.{refusal_of}
 use Rattle.mine_rules.specs.Move.{moved}
@@ -11,7 +10,7 @@ use Rattle.mine.specs.declared.calls.MineAnswer.{MineAnswer}
 use Rattle.controls.specs.Keys.{LEFT}
 
 -- a refused call returns the refusal and the state it got
-abbrev pub refused : Mine → Refusal → MineAnswer
+abbrev pub refused : Mine → Checked → MineAnswer
 refused m n = record { refusal = n; game = m }
 
 -- one that is not returns no number and the state after

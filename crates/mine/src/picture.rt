@@ -5,19 +5,17 @@ ghost use Rattle.mine.specs.Picture.{picture_of};
 use frame::FRAME_LEN;
 use mine_check::check;
 use mine_state::Mine;
-use refusal::Refusal;
+use refusal::{Checked, Refusal};
 
 // Draws the state into a lent frame; a refused call leaves every byte of it.
-pub fn render(m: Mine, frame: &mut [u8]) -> Refusal
+#[tactic(auto, unfolding(crate::specs::Picture::picture_of))]
+pub fn render(m: Mine, frame: &mut [u8]) -> Checked
     ensures { (result, frame.new) ≡ picture_of m frame.old }
 {
-    let no = check(m);
-    if no.number != refusal::NONE.number {
-        return no;
-    }
+    check(m)?;
     if frame.len() != FRAME_LEN {
-        return refusal::FRAME;
+        return Err(Refusal::Frame);
     }
     mine_render::render(m, frame);
-    refusal::NONE
+    Ok(())
 }

@@ -1,18 +1,19 @@
 -- Places stand for the creatures: a search among the places finds the creature that a search among the creatures finds. Assumes nothing.
-use mathlib.Core.Bool.{Bool, true, false, cond, ◌&&◌, ◌||◌, not}
+use Rattle.std.specs.Prelude.{None, Option, Some}
+use mathlib.Core.Bool.{Bool, true, false, cond, ◌&&◌, not}
 use mathlib.Core.List.{List, [], ◌∷◌}
 use mathlib.Core.Path.{◌≡◌, refl, sym, ◌∙◌, ap, subst}
 use Prim.Native.Nat.{ℕ, zero, suc, ◌+◌, ◌<◌, ◌≤◌, ◌-◌}
 use native.Mathlib.Nat.{le_of_suc-le-suc, not-suc-le-zero}
 use native.Mathlib.Omega.{arith}
 use lib.Dec.{eqb, ltb}
-use lib.ListN.{length, length-map, get_or, take, drop, set}
+use lib.ListN.{length, length-map, get_or, take, set}
 use borrow.Author.Tests.{ne_eqb, ltb-true, ltb-false, lt-ltb, le-ltb}
 use Rattle.laws.specs.Lists.{any}
 use Rattle.laws.proofs.Choice.{and_left, and_right}
 use Rattle.found.specs.First.{first_from, first, nobody, number}
 use Rattle.found.specs.declared.Found.{Found}
-use Rattle.found.specs.declared.Found.TheVariants.{At, Nobody}
+use Rattle.found.specs.First.{At}
 use Rattle.found.proofs.First.{from_number, nobody-any}
 use Rattle.mine_state.specs.declared.Mine.{Mine}
 use Rattle.mine_state.specs.declared.Enemy.{Enemy}
@@ -31,10 +32,11 @@ off-place : (x y : ℕ) → x < W → y < H → is_spot (place x y) AREA ≡ fal
 off-place x y hx hy = ne_eqb AREA (place x y) (λ e. omega arith)
 
 -- the search among places is the search among creatures
-spots_search : (x y : ℕ) → x < W → y < H → (n k : ℕ) (l : List Enemy) → all_on_map l ≡ true → first_from (is_spot (place x y)) k (spots_from n l) ≡ first_from (stands_at x y) k (take n l)
+spots_search : (x y : ℕ) → x < W → y < H → (n k : ℕ) (l : List Enemy) → all_on_map l ≡ true
+    → first_from (is_spot (place x y)) k (spots_from n l) ≡ first_from (stands_at x y) k (take n l)
 spots_search x y hx hy n k [] a = take_none n
   where
-    take_none : (n : ℕ) → Nobody ≡ first_from (stands_at x y) k (take n [])
+    take_none : (n : ℕ) → None ≡ first_from (stands_at x y) k (take n [])
     take_none zero = refl
     take_none (suc n) = refl
 spots_search x y hx hy zero k (e ∷ l) a =
@@ -99,26 +101,16 @@ spots_without (suc n) l k h b =
     let q : suc n - 1 ≡ n = omega arith in
     rw (q, spots_less n (set l k (get_or l n blank_slot)) blank_slot, spots_set (suc n) l k (get_or l n blank_slot) h, spot_slot n l b)
 
--- a look at the slots one by one: b is what is seen so far
-module _ {A : Type 0} (f : A → Bool) (l : List A) (i : ℕ) {R : Bool} where
-  pub seen_more : (b : Bool) {x : A} → drop i l ≡ x ∷ drop (i + 1) l → (b || any f (drop i l)) ≡ R → ((b || f x) || any f (drop (i + 1) l)) ≡ R
-  seen_more true h e = e
-  seen_more false h e = rw h at e
-
-  pub seen_all : (b : Bool) → drop i l ≡ [] → (b || any f (drop i l)) ≡ R → b ≡ R
-  seen_all true h e = e
-  seen_all false h e = rw h at e
-
-is-nobody : (r : Found) → nobody r ≡ true → Nobody ≡ r
-is-nobody Nobody e = refl
-is-nobody (At i n) e = absurd (let z : ◌≡◌ {A = ℕ} 0 1 = ap (λ (t : Bool). count_of t) e in omega arith)
+is-nobody : (r : Option Found) → nobody r ≡ true → None ≡ r
+is-nobody None e = refl
+is-nobody (Some f) e = absurd (let z : ◌≡◌ {A = ℕ} 0 1 = ap (λ (t : Bool). count_of t) e in omega arith)
   where
     count_of : Bool → ℕ
     count_of true = 1
     count_of false = 0
 
 -- where a look at all slots sees nobody, nobody is found
-pub unseen : {A : Type 0} (test : A → Bool) (l : List A) → any test l ≡ false → Nobody ≡ first test l
+pub unseen : {A : Type 0} (test : A → Bool) (l : List A) → any test l ≡ false → None ≡ first test l
 unseen test l e = is-nobody (first test l) (nobody-any test l ∙ ap not e)
 
 module _ (m : Mine) {spots : List ℕ} (s : Spotted m.enemies m.count spots) where

@@ -1,5 +1,5 @@
 -- Creatures taken apart into places and directions, and who stands where by places. No promise of a public call cites it.
-use Rattle.std.specs.Prelude.{Bool, true, ◌&&◌, not, List, [], ◌∷◌, map, ◌≡◌, ℕ, zero, suc, ◌/◌, ◌%◌, ◌<◌, ◌≤◌, eqb, length}
+use Rattle.std.specs.Prelude.{Bool, true, ◌&&◌, not, List, [], ◌∷◌, map, ◌≡◌, ℕ, zero, suc, ◌/◌, ◌%◌, ◌<◌, ◌≤◌, eqb, length, Option}
 use Rattle.found.specs.First.{first, nobody}
 use Rattle.found.specs.declared.Found.{Found}
 use Rattle.mine_state.specs.declared.Mine.{Mine}
@@ -59,7 +59,7 @@ abbrev pub is_spot : ℕ → ℕ → Bool
 is_spot at s = eqb s at
 
 -- the first creature at a place and how many are there, or nobody
-abbrev pub first_spot : ℕ → List ℕ → Found
+abbrev pub first_spot : ℕ → List ℕ → Option Found
 first_spot at spots = first (is_spot at) spots
 
 -- free, by places

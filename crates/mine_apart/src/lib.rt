@@ -1,8 +1,8 @@
 // Block Mine's creatures taken apart into places and directions, which are lent where creatures are not, and who stands where by them.
 #![tactic(auto)]
 
-ghost use Rattle.std.specs.Prelude.{cond, ◌≡◌, length, drop};
-ghost use Rattle.laws.specs.Lists.{any, count};
+ghost use Rattle.std.specs.Prelude.{cond, ◌≡◌, length, position};
+ghost use Rattle.laws.specs.Lists.{any};
 ghost use Rattle.mine_state.specs.State.{AREA, MAX_ENEMIES};
 ghost use Rattle.mine_apart.specs.CodeApart.{Takes, parted, joined, Apart, is_spot, first_spot, free_spot, Asks, Lent};
 
@@ -34,20 +34,13 @@ pub fn parts_of(enemies: [Enemy; MAX_ENEMIES], count: usize) -> Parts
     requires { Takes enemies count }
     ensures { result ≡ parted enemies count }
 {
-    let mut spots: [u16; MAX_ENEMIES] = [NOWHERE; MAX_ENEMIES];
-    let mut dirs: [u8; MAX_ENEMIES] = [0; MAX_ENEMIES];
-    let mut i: usize = 0;
-    while i < MAX_ENEMIES {
-        let e = enemies[i];
-        let at = spot_or(i < count, e.y * W + e.x);
-        spots[i] = at as u16;
+    let mut spots = [NOWHERE; MAX_ENEMIES];
+    let mut dirs = [0; MAX_ENEMIES];
+    for (i, e) in enemies.iter().enumerate() {
+        spots[i] = spot_or(i < count, e.y * W + e.x) as u16;
         dirs[i] = e.dir;
-        i += 1;
     }
-    Parts {
-        spots: spots,
-        dirs: dirs,
-    }
+    Parts { spots, dirs }
 }
 
 // The creatures put together again.
@@ -59,16 +52,14 @@ pub fn enemies_of(
     requires { Apart count spots.now dirs.now }
     ensures { result ≡ joined count spots.now dirs.now }
 {
-    let mut out: [Enemy; MAX_ENEMIES] = [Enemy { x: 0, y: 0, dir: 0 }; MAX_ENEMIES];
-    let mut i: usize = 0;
-    while i < count {
+    let mut out = [Enemy { x: 0, y: 0, dir: 0 }; MAX_ENEMIES];
+    for i in 0..count {
         let at = spots[i] as usize;
         out[i] = Enemy {
             x: at % W,
             y: at / W,
             dir: dirs[i],
         };
-        i += 1;
     }
     out
 }
@@ -79,50 +70,35 @@ fn somebody(spots: &[u16; MAX_ENEMIES], at: u16) -> bool
     ensures { result ≡ any (is_spot at) spots.now }
 {
     let mut some = false;
-    let mut i: usize = 0;
-    while i < MAX_ENEMIES {
-        some = some | (spots[i] == at);
-        i += 1;
+    for s in spots {
+        some |= *s == at;
     }
     some
 }
 
-// How many creatures from slot `from` on are at a place.
-fn number_from(spots: &[u16; MAX_ENEMIES], from: usize, at: u16) -> usize
-    requires { length spots.now ≡ MAX_ENEMIES }
-    ensures { result ≡ count (is_spot at) (drop from spots.now) }
+// The first slot of a place.
+fn slot_of(spots: &[u16; MAX_ENEMIES], at: u16) -> Option<usize>
+    ensures { result ≡ position (is_spot at) spots.now }
 {
-    let mut n: usize = 0;
-    let mut i = from;
-    while i < MAX_ENEMIES {
-        if spots[i] == at {
-            n += 1;
-        }
-        i += 1;
-    }
-    n
+    spots.iter().position(|s| *s == at)
 }
 
 // The first creature at a place and how many are there, or nobody.
-pub fn enemy_at(spots: &[u16; MAX_ENEMIES], at: usize) -> Found
+pub fn enemy_at(spots: &[u16; MAX_ENEMIES], at: usize) -> Option<Found>
     requires { Asks spots.now at }
     ensures { result ≡ first_spot at spots.now }
 {
     let place = at as u16;
     if !somebody(spots, place) {
-        return Found::Nobody;
+        return None;
     }
-    let mut i: usize = 0;
-    while i < MAX_ENEMIES {
-        if spots[i] == place {
-            return Found::At(i, number_from(spots, i, place));
-        }
-        i += 1;
-    }
-    Found::Nobody
+    let index = slot_of(spots, place)?;
+    let number = spots.iter().filter(|s| **s == place).count();
+    Some(Found { index, number })
 }
 
 // A cell an object may fall, roll or be pushed into: empty terrain with nobody standing on it.
+#[tactic(auto, unfolding(crate::specs::CodeApart::free_spot, mine_state::specs::State::empty_at))]
 pub fn free(
     grid: &[u8; AREA],
     spots: &[u16; MAX_ENEMIES],
@@ -133,18 +109,9 @@ pub fn free(
     requires { Lent grid.now spots.now }
     ensures { result ≡ free_spot grid.now spots.now player x y }
 {
-    if W <= x {
-        return false;
-    }
-    if H <= y {
+    if W <= x || H <= y {
         return false;
     }
     let at = y * W + x;
-    if grid[at] != EMPTY {
-        return false;
-    }
-    if player == at {
-        return false;
-    }
-    !somebody(spots, at as u16)
+    grid[at] == EMPTY && player != at && !somebody(spots, at as u16)
 }

@@ -5,8 +5,7 @@ use lib.Dec.{leb}
 use lib.ListN.{length, drop}
 use borrow.Author.Tests.{eq-eqb}
 use Rattle.laws.specs.Lists.{all}
-use Rattle.refusal.specs.declared.Refusal.{Refusal}
-use Rattle.refusal.specs.Refusal.{NONE, CELLS, PLAYER, NUMBERS}
+use Rattle.refusal.specs.Refusal.{Checked, NONE, CELLS, PLAYER, NUMBERS}
 use Rattle.refusal.specs.Faults.{fault_in}
 use Rattle.refusal.proofs.Checks.{at_cells, at_player, at_creatures, at_numbers, at_end}
 use Rattle.mine_state.specs.declared.Mine.{Mine}
@@ -45,7 +44,7 @@ module _ (m : Mine) (s : Sized m) where
         two : player_ok m ≡ true
         two = sym player ∙ b-passed
 
-        pub no_creatures : c ≡ false → {r : Refusal}
+        pub no_creatures : c ≡ false → {r : Checked}
             → r ≡ fault_in MAX_ENEMIES (creature_fault m.grid m.enemies) is_blank m.enemies m.count → r ≡ refusal_of m
         unfolding refusal_of creatures_fault
         no_creatures t e =

@@ -1,13 +1,14 @@
 -- A loop over the creatures: each right by itself, and no later one on its cell. Assumes nothing.
-use mathlib.Core.Bool.{Bool, true, false, ◌&&◌, and-false}
+use mathlib.Core.Bool.{Bool, true, false, ◌&&◌, and_assoc, and-false}
 use mathlib.Core.List.{List, [], ◌∷◌}
-use mathlib.Core.Path.{◌≡◌}
+use mathlib.Core.Path.{◌≡◌, sym, fun_ext}
 use Prim.Native.Nat.{ℕ, ◌+◌}
+use lib.Dec.{eqb}
 use lib.ListN.{drop}
 use Rattle.laws.specs.Lists.{all, any}
 use Rattle.mine_state.specs.declared.Enemy.{Enemy}
 use Rattle.mine_state.specs.State.{stands_at}
-use Rattle.mine_state.specs.WellFormed.{creature_ok, apart}
+use Rattle.mine_state.specs.WellFormed.{creature_ok, apart, is_blank}
 
 abbrev pub right : List ℕ → List Enemy → Bool
 right g l = all (creature_ok g) l && apart l
@@ -25,6 +26,10 @@ module _ (g : List ℕ) (l : List Enemy) (i : ℕ) {R : Bool} (q : right g (drop
 
     pub right-meets : any (stands_at e.x e.y) (drop (i + 1) l) ≡ true → false ≡ R
     right-meets u = rw (h, u, and-false) at q
+
+-- a slot is blank: what `==` answers
+pub blank_is : (λ (e : Enemy). eqb e.x 0 && (eqb e.y 0 && eqb e.dir 0)) ≡ is_blank
+blank_is = fun_ext (λ e. sym (and_assoc (eqb e.x 0) (eqb e.y 0) (eqb e.dir 0)))
 
 -- the parts of the answer, in its order
 pub answer : (a b c d : Bool) {p : Bool} → a ≡ true → p ≡ (b && c) → (p && d) ≡ (a && b && c && d)

@@ -3,23 +3,15 @@
 
 mod cause;
 
-ghost use Rattle.std.specs.Prelude.{◌&&◌, cond, ◌≡◌, ◌≤◌, ◌+◌, leb, ltb, length, take, drop};
-ghost use Rattle.laws.specs.Lists.{all, count};
-ghost use Rattle.mine_state.specs.State.{AREA, MAX_ENEMIES, empty_at, is_coin, is_code};
+ghost use Rattle.std.specs.Prelude.{◌&&◌, ◌≡◌, ◌≤◌, ◌+◌, leb, length, take, drop};
+ghost use Rattle.laws.specs.Lists.{all, any, count};
+ghost use Rattle.mine_state.specs.State.{AREA, MAX_ENEMIES, empty_at, is_coin, is_code, stands_at};
 ghost use Rattle.mine_state.specs.WellFormed.{creature_ok, apart, is_blank, refusal_of};
 
 use cause::first_fault;
 use mine_state::{AREA, EMPTY, EXIT, Enemy, H, MAX_ENEMIES, Mine, W, coin_count, stands_at};
-use refusal::{CELLS, NONE, NUMBERS, PLAYER, Refusal};
-
-fn larger(a: u8, b: u8) -> u8
-    ensures { result ≡ cond (ltb a b) b a }
-{
-    if a < b {
-        return b;
-    }
-    a
-}
+use refusal::{Checked, Refusal};
+use slots::all_blank;
 
 // Every cell holds a code from EMPTY to EXIT: the largest does.
 fn codes_ok(grid: &[u8; AREA]) -> bool
@@ -27,10 +19,8 @@ fn codes_ok(grid: &[u8; AREA]) -> bool
     ensures { result ≡ all is_code grid.now }
 {
     let mut most: u8 = 0;
-    let mut i: usize = 0;
-    while i < AREA {
-        most = larger(most, grid[i]);
-        i += 1;
+    for code in grid {
+        most = most.max(*code);
     }
     most <= EXIT
 }
@@ -57,14 +47,17 @@ fn creature_ok(grid: &[u8; AREA], e: Enemy) -> bool
     empty_at(grid, e.x, e.y) & (e.dir <= 3)
 }
 
-fn is_blank(e: Enemy) -> bool
-    ensures { result ≡ is_blank e }
+// A slot that holds zeros.
+const BLANK: Enemy = Enemy { x: 0, y: 0, dir: 0 };
+
+// Somebody stands where e does.
+fn met(others: &[Enemy], e: Enemy) -> bool
+    ensures { result ≡ any (stands_at e.x e.y) others.now }
 {
-    (e.x == 0) & (e.y == 0) & (e.dir == 0)
+    others.iter().any(|d| stands_at(*d, e.x, e.y))
 }
 
-// Each creature is right by itself and no later one stands on its cell; the slots past the count hold zeros. One function, which
-// copies the creatures once.
+// Each creature is right by itself and no later one stands on its cell; the slots past the count hold zeros.
 fn creatures_ok(grid: &[u8; AREA], enemies: [Enemy; MAX_ENEMIES], n: usize) -> bool
     requires { length grid.now ≡ AREA }
     ensures { result ≡ (leb n MAX_ENEMIES && all (creature_ok grid.now) (take n enemies) && apart (take n enemies) && all is_blank (drop n enemies)) }
@@ -72,31 +65,16 @@ fn creatures_ok(grid: &[u8; AREA], enemies: [Enemy; MAX_ENEMIES], n: usize) -> b
     if MAX_ENEMIES < n {
         return false;
     }
-    let mut i: usize = 0;
-    while i < n {
-        let e = enemies[i];
-        if !creature_ok(grid, e) {
+    let them = &enemies[..n];
+    for (i, e) in them.iter().enumerate() {
+        if !creature_ok(grid, *e) {
             return false;
         }
-        let mut j = i + 1;
-        while j < n {
-            let d = enemies[j];
-            if stands_at(d, e.x, e.y) {
-                return false;
-            }
-            j += 1;
-        }
-        i += 1;
-    }
-    let mut k = n;
-    while k < MAX_ENEMIES {
-        let e = enemies[k];
-        if !is_blank(e) {
+        if met(&them[i + 1..], *e) {
             return false;
         }
-        k += 1;
     }
-    true
+    all_blank(&enemies[n..], BLANK)
 }
 
 // Coins in hand and on the map, and the coins needed.
@@ -113,24 +91,24 @@ fn numbers_ok(grid: &[u8; AREA], coins: u32, needed: u32) -> bool
     (hand + map <= AREA) & (1 <= asked) & (asked <= AREA)
 }
 
-// The refusal that a state gets, and NONE.
-pub fn check(m: Mine) -> Refusal
+// The refusal that a state gets, if any.
+pub fn check(m: Mine) -> Checked
     ensures { result ≡ refusal_of m }
 {
     // One copy of the cells, lent to each part of the check.
     let grid = m.grid;
     let enemies = m.enemies;
     if !codes_ok(&grid) {
-        return CELLS;
+        return Err(Refusal::Cells);
     }
     if !empty_at(&grid, m.px, m.py) {
-        return PLAYER;
+        return Err(Refusal::Player);
     }
     if !creatures_ok(&grid, enemies, m.count) {
         return first_fault(&grid, enemies, m.count);
     }
     if !numbers_ok(&grid, m.coins, m.needed) {
-        return NUMBERS;
+        return Err(Refusal::Numbers);
     }
-    NONE
+    Ok(())
 }

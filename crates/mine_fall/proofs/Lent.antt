@@ -1,4 +1,5 @@
 -- What the functions over the lent grid and marks lean on. Assumes nothing.
+use Rattle.std.specs.Prelude.{Option}
 use mathlib.Core.Bool.{Bool, true, false, ◌&&◌, ◌||◌, not}
 use mathlib.Core.List.{List}
 use mathlib.Core.Path.{◌≡◌, refl, sym, ◌∙◌}
@@ -66,7 +67,7 @@ module _ {m : Mine} {spots : List ℕ} {player : ℕ} (s : Stand m spots player)
   pub off-player : (x y : ℕ) → x < W → (player ≡ place x y → ⊥) → player_at m x y ≡ false
   off-player x y h e = sym (player_spot s x y h) ∙ ne_eqb player (place x y) e
 
-  pub found : (x y : ℕ) → x < W → y < H → {r : Found} → first_spot (place x y) spots ≡ r → first_at m x y ≡ r
+  pub found : (x y : ℕ) → x < W → y < H → {r : Option Found} → first_spot (place x y) spots ≡ r → first_at m x y ≡ r
   found x y hx hy e = sym (first_spot_lem m s.spotted x y hx hy) ∙ e
 
 -- the last case of a cell: over anything but empty and objects

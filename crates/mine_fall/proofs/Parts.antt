@@ -6,7 +6,7 @@ use Prim.Native.Nat.{ℕ, zero, suc, ◌-◌, ◌<◌, ◌≤◌}
 use native.Mathlib.Nat.{not-suc-le-zero}
 use native.Mathlib.Omega.{arith}
 use lib.ListN.{length, get_or, set, length-set}
-use Rattle.laws.proofs.Lists.{all_set}
+use Rattle.laws.proofs.Lists.{all_set, get_or_default}
 use Rattle.mine_state.specs.declared.Mine.{Mine}
 use Rattle.mine_state.specs.declared.Enemy.{Enemy}
 use Rattle.mine_state.specs.State.{AREA, blank_slot}
@@ -25,6 +25,14 @@ nothing = record { grid = []; falling = []; px = 0; py = 0; enemies = []; count 
 
 abbrev pub numbers : ℕ → ℕ → Bool → Fallen
 numbers n c d = record { count = n; coins = c; dead = d }
+
+-- the state of the lent arrays, places and directions among them
+abbrev pub apart_state : Mine → ℕ → ℕ → List ℕ → List Bool → List ℕ → List ℕ → Fallen → Mine
+apart_state m px py g f spots ds s = whole m px py g f (joined s.count spots ds) s
+
+-- within a list it does not matter what stands past it
+pub left_of : (l : List ℕ) (k last b d : ℕ) → last < length l → set (set l k (get_or l last d)) last b ≡ left l k last b
+left_of l k last b d h = rw (get_or_default l last d 0 h)
 
 -- with other numbers needed and won a state is as sound
 pub sound-whole : (m m' : Mine) {es : List Enemy} → es ≡ m.enemies → Sound m → Sound (whole m' m.px m.py m.grid m.falling es (numbers m.count m.coins m.dead))

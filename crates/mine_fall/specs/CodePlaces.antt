@@ -1,17 +1,10 @@
 -- What a tick in place asks of the lent arrays and numbers, and what it does to them. No promise of a public call cites it.
-use Rattle.std.specs.Prelude.{Bool, List, ◌≡◌, ℕ, ◌<◌, length, get_or, set}
+use Rattle.std.specs.Prelude.{Bool, List, ◌≡◌, ℕ, get_or, set}
 use Rattle.mine_state.specs.declared.Mine.{Mine}
 use Rattle.mine_state.specs.declared.Enemy.{Enemy}
-use Rattle.mine_state.specs.State.{MAX_ENEMIES}
 use Rattle.mine_apart.specs.CodeApart.{joined, Apart}
 use Rattle.mine_fall.specs.declared.Fallen.{Fallen}
 use Rattle.mine_state.specs.CodeState.{Sound}
-
--- two slots
-pub record Slots (l : List ℕ) (k last : ℕ) : Type 0 where
-  pub slots : length l ≡ MAX_ENEMIES
-  pub one : k < MAX_ENEMIES
-  pub other : last < MAX_ENEMIES
 
 -- the last number takes the place of another, and leaves b
 abbrev pub left : List ℕ → ℕ → ℕ → ℕ → List ℕ

@@ -7,7 +7,6 @@ ghost use Rattle.mine_rules.specs.Gravity.{is_object, carried, over_player, over
 ghost use Rattle.mine_fall.specs.CodeFalls.{LentCell, LentCells, Reached, open_spot, Barely, Quietly, Does, Falls};
 ghost use Rattle.mine_state.specs.CodeState.{CellOf};
 
-use found::Found;
 use mine_apart::{enemy_at, free};
 use mine_state::{AREA, BOULDER, COIN, EMPTY, H, MAX_ENEMIES, W};
 
@@ -38,10 +37,7 @@ fn open_side(
     requires { Lent grid.now spots.now }
     ensures { result ≡ open_spot grid.now spots.now player x y by }
 {
-    if free(grid, spots, player, x, y) {
-        return free(grid, spots, player, x, by);
-    }
-    false
+    free(grid, spots, player, x, y) && free(grid, spots, player, x, by)
 }
 
 // No cell of the row y holds an object.
@@ -50,11 +46,8 @@ fn bare(grid: &[u8; AREA], y: usize) -> bool
     ensures { result ≡ true → Barely grid.now y W }
 {
     let mut some = false;
-    let mut x: usize = 0;
-    while x < W {
-        let at = y * W + x;
-        some = some | is_object(grid[at]);
-        x += 1;
+    for x in 0..W {
+        some |= is_object(grid[y * W + x]);
     }
     !some
 }
@@ -69,14 +62,11 @@ pub fn quiet(grid: &[u8; AREA], falling: &[bool; AREA], y: usize) -> bool
         return bare(grid, y);
     }
     let mut some = false;
-    let mut x: usize = 0;
-    while x < W {
+    for x in 0..W {
         let at = y * W + x;
-        let j = by * W + x;
-        let below = grid[j];
+        let below = grid[by * W + x];
         let loose = (below == EMPTY) | is_object(below) | falling[at];
-        some = some | (is_object(grid[at]) & loose);
-        x += 1;
+        some |= is_object(grid[at]) & loose;
     }
     !some
 }
@@ -95,8 +85,7 @@ fn move_obj(
 {
     let i = y * W + x;
     let j = ny * W + nx;
-    let t = grid[i];
-    grid[j] = t;
+    grid[j] = grid[i];
     grid[i] = EMPTY;
     falling[j] = true;
     falling[i] = false;
@@ -137,14 +126,14 @@ fn over_empty(
     if player == at {
         return over_player(grid, falling, x, y);
     }
-    let Found::At(k, _) = enemy_at(spots, at) else {
+    let Some(found) = enemy_at(spots, at) else {
         move_obj(grid, falling, x, y, x, by);
         return Fell::Quiet;
     };
     let i = y * W + x;
     if falling[i] {
         move_obj(grid, falling, x, y, x, by);
-        return Fell::Squashed(k);
+        return Fell::Squashed(found.index);
     }
     falling[i] = false;
     Fell::Quiet
@@ -163,13 +152,9 @@ fn roll(
     ensures { Falls spots.now player (λ m. rolled m x y) grid.old falling.old Quiet grid.new falling.new }
 {
     let by = y + 1;
-    if 0 < x {
-        if open_side(grid, spots, player, x - 1, y, by) {
-            move_obj(grid, falling, x, y, x - 1, y);
-            return;
-        }
-    }
-    if open_side(grid, spots, player, x + 1, y, by) {
+    if 0 < x && open_side(grid, spots, player, x - 1, y, by) {
+        move_obj(grid, falling, x, y, x - 1, y);
+    } else if open_side(grid, spots, player, x + 1, y, by) {
         move_obj(grid, falling, x, y, x + 1, y);
     }
 }
@@ -195,8 +180,7 @@ pub fn cell_fall(
         falling[i] = false;
         return Fell::Quiet;
     }
-    let j = by * W + x;
-    let below = grid[j];
+    let below = grid[by * W + x];
     if below == EMPTY {
         return over_empty(grid, falling, spots, player, x, y);
     }

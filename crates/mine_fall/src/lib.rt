@@ -6,14 +6,14 @@
 
 mod cells;
 
-ghost use Rattle.std.specs.Prelude.{◌≡◌};
-ghost use Rattle.mine_state.specs.State.{AREA};
+ghost use Rattle.std.specs.Prelude.{◌≡◌, ◌<◌, get_or, set};
+ghost use Rattle.mine_state.specs.State.{MAX_ENEMIES};
 ghost use Rattle.mine_state.specs.WellFormed.{WellFormed};
 ghost use Rattle.mine_rules.specs.Gravity.{gravity_of};
-ghost use Rattle.mine_fall.specs.CodePlaces.{Slots, left, Falling, Dropped};
+ghost use Rattle.mine_fall.specs.CodePlaces.{Falling, Dropped};
 
 use crate::cells::{Fell, cell_fall, quiet};
-use mine_apart::{NOWHERE, enemies_of, parts_of};
+use mine_apart::{NOWHERE, Parts, enemies_of, parts_of};
 use mine_state::{AREA, H, MAX_ENEMIES, Mine, W};
 
 // What a tick changes beside the lent arrays.
@@ -25,23 +25,14 @@ pub struct Fallen {
     pub dead: bool,
 }
 
-// The last creature takes the slot of the one that goes, and leaves nobody there.
-fn leave_spot(a: &mut [u16; MAX_ENEMIES], k: usize, last: usize)
-    requires { Slots a.old k last }
-    ensures { a.new ≡ left a.old k last AREA }
+// The last slot's number goes to the slot of the one that goes, and leaves nobody's there.
+fn leave<T: Copy>(a: &mut [T; MAX_ENEMIES], k: usize, last: usize, nobody: T)
+    requires one { k < MAX_ENEMIES }
+    requires other { last < MAX_ENEMIES }
+    ensures { a.new ≡ set (set a.old k (get_or a.old last nobody)) last nobody }
 {
-    let v = a[last];
-    a[k] = v;
-    a[last] = NOWHERE;
-}
-
-fn leave_dir(a: &mut [u8; MAX_ENEMIES], k: usize, last: usize)
-    requires { Slots a.old k last }
-    ensures { a.new ≡ left a.old k last 0 }
-{
-    let v = a[last];
-    a[k] = v;
-    a[last] = 0;
+    a[k] = a[last];
+    a[last] = nobody;
 }
 
 // One gravity tick, in place: boulders and coins fall a cell, roll off rounded neighbours, and a falling one
@@ -59,38 +50,27 @@ pub fn gravity_on(
     ensures { Dropped gravity_of px py grid.old falling.old spots.old dirs.old s grid.new
         falling.new spots.new dirs.new result }
 {
-    let mut count = s.count;
-    let mut coins = s.coins;
-    let mut dead = s.dead;
+    let mut fallen = s;
     let player = py * W + px;
-    let mut y: usize = H;
-    while 0 < y {
-        y -= 1;
+    for y in (0..H).rev() {
         // In most rows nothing can stir, and one pass over the row tells.
         if quiet(grid, falling, y) {
             continue;
         }
-        let mut x: usize = 0;
-        while x < W {
-            let fell = cell_fall(grid, falling, spots, player, x, y);
-            x += 1;
-            match fell {
+        for x in 0..W {
+            match cell_fall(grid, falling, spots, player, x, y) {
                 Fell::Quiet => {}
-                Fell::Collected => coins += 1,
-                Fell::Crushed => dead = true,
+                Fell::Collected => fallen.coins += 1,
+                Fell::Crushed => fallen.dead = true,
                 Fell::Squashed(k) => {
-                    count -= 1;
-                    leave_spot(spots, k, count);
-                    leave_dir(dirs, k, count);
+                    fallen.count -= 1;
+                    leave(spots, k, fallen.count, NOWHERE);
+                    leave(dirs, k, fallen.count, 0);
                 }
             }
         }
     }
-    Fallen {
-        count: count,
-        coins: coins,
-        dead: dead,
-    }
+    fallen
 }
 
 // One gravity tick.
@@ -100,10 +80,10 @@ pub fn gravity(m: Mine) -> Mine
 {
     let mut grid = m.grid;
     let mut falling = m.falling;
-    let old = m.enemies;
-    let parts = parts_of(old, m.count);
-    let mut spots = parts.spots;
-    let mut dirs = parts.dirs;
+    let Parts {
+        mut spots,
+        mut dirs,
+    } = parts_of(m.enemies, m.count);
     let s = Fallen {
         count: m.count,
         coins: m.coins,
@@ -118,17 +98,13 @@ pub fn gravity(m: Mine) -> Mine
         m.px,
         m.py,
     );
-    let enemies = enemies_of(&spots, &dirs, to.count);
     Mine {
-        grid: grid,
-        falling: falling,
-        px: m.px,
-        py: m.py,
-        enemies: enemies,
+        grid,
+        falling,
+        enemies: enemies_of(&spots, &dirs, to.count),
         count: to.count,
         coins: to.coins,
-        needed: m.needed,
         dead: to.dead,
-        won: m.won,
+        ..m
     }
 }

@@ -11,7 +11,7 @@ use Rattle.laws.specs.Lists.{any, count}
 use Rattle.laws.proofs.Lists.{any-set, any_append}
 use Rattle.laws.proofs.Choice.{and_left, and_right, or_left, or_right}
 use Rattle.found.specs.First.{first_from}
-use Rattle.found.specs.declared.Found.TheVariants.{At}
+use Rattle.found.specs.First.{At, index}
 use Rattle.found.proofs.First.{from_least}
 use Rattle.mine_state.specs.declared.Enemy.{Enemy}
 use Rattle.mine_state.specs.State.{stands_at}
@@ -66,5 +66,5 @@ found_gone x y k (suc j) m (d ∷ p) v a e =
   where
     go : (b : Bool) → cond b (At k (count (stands_at x y) (d ∷ p ++ (v ∷ [])))) (first_from (stands_at x y) (k + 1) (p ++ (v ∷ []))) ≡ At (k + suc j) m
         → (first_from (stands_at x y) (k + 1) (p ++ (v ∷ [])) ≡ At (k + 1 + j) m → any (stands_at x y) (set p j v) ≡ false) → (b || any (stands_at x y) (set p j v)) ≡ false
-    go true e f = absurd (let z : k ≡ k + suc j = cc in omega arith)
+    go true e f = absurd (let z : k ≡ k + suc j = ap index e in omega arith)
     go false e f = let z : k + suc j ≡ k + 1 + j = omega arith in f (e ∙ ap (λ (i : ℕ). At i m) z)

@@ -11,7 +11,7 @@ use Rattle.laws.specs.Lists.{all, any}
 use Rattle.laws.proofs.Lists.{all_set, all_append}
 use Rattle.laws.proofs.Choice.{and_left, and_right, below?}
 use Rattle.found.specs.First.{first}
-use Rattle.found.specs.declared.Found.TheVariants.{At}
+use Rattle.found.specs.First.{At}
 use Rattle.mine_state.specs.declared.Enemy.{Enemy}
 use Rattle.mine_state.specs.State.{stands_at, blank_slot}
 use Rattle.mine_state.specs.WellFormed.{apart, is_blank}

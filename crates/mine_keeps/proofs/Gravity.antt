@@ -4,7 +4,7 @@ use mathlib.Core.Path.{◌≡◌, ◌∙◌, ap}
 use Prim.Native.Nat.{ℕ, ◌+◌, ◌≤◌}
 use native.Mathlib.Omega.{arith}
 use lib.ListN.{length, set, length-set}
-use Rattle.found.specs.declared.Found.TheVariants.{At}
+use Rattle.found.specs.First.{At}
 use Rattle.found.proofs.First.{nobody-any}
 use Rattle.mine_state.specs.declared.Mine.{Mine}
 use Rattle.mine_state.specs.State.{place, empty_at, player_at, creatures, stands_at, first_at, free_at}

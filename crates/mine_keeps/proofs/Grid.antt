@@ -11,6 +11,7 @@ use lib.Seq.{get_or-set_other}
 use borrow.Author.Tests.{eqb-true, eqb-false}
 use Rattle.laws.specs.Lists.{all, any, count, bit}
 use Rattle.laws.proofs.Choice.{and_left, and_right, or_left, or_right}
+use Rattle.laws.proofs.Filter.{all_true, any_zero}
 use Rattle.laws.proofs.Counts.{count-clear, count_set, get_or_set_kept_lem}
 use Rattle.mine_state.specs.declared.Enemy.{Enemy}
 use Rattle.mine_state.specs.State.{W, EMPTY, place, on_grid, code_in, empty_at, stands_at}
@@ -35,12 +36,8 @@ empty_dug g p x y e =
     let z = eqb-true (code_in g x y) EMPTY (and_right (on_grid x y) (eqb (code_in g x y) EMPTY) e) in
     rw (on, get_or_set_kept_lem g (place x y) p EMPTY EMPTY z)
 
-nowhere : (es : List Enemy) → any (λ _. false) es ≡ false
-nowhere [] = refl
-nowhere (e ∷ es) = nowhere es
-
 pub creatures_dug : (g : List ℕ) (p : ℕ) (es : List Enemy) → all (creature_ok g) es ≡ true → all (creature_ok (set g p EMPTY)) es ≡ true
-creatures_dug g p es a = creatures-still g (set g p EMPTY) (λ _. false) (λ e _ h. empty_dug g p e.x e.y h) es (nowhere es) a
+creatures_dug g p es a = creatures-still g (set g p EMPTY) (λ _. false) (λ e _ h. empty_dug g p e.x e.y h) es (any_zero (λ _. false) es (all_true es)) a
 
 -- what stands at the place i moved to the cell (nx, ny)
 abbrev pub shifted_to : List ℕ → ℕ → ℕ → ℕ → List ℕ

@@ -1,4 +1,5 @@
 -- A move keeps a state well formed, its coins and its boulders. Assumes nothing.
+use Rattle.std.specs.Prelude.{None, Option, Some}
 use mathlib.Core.Bool.{Bool, true, false, ◌||◌}
 use mathlib.Core.List.{List, [], ◌∷◌}
 use mathlib.Core.Logic.{⊎_elim}
@@ -9,14 +10,11 @@ use lib.ListN.{get_or, set}
 use borrow.Author.Tests.{eqb-true, lt-ltb}
 use Rattle.laws.proofs.Choice.{cond_both, or_cases}
 use Rattle.found.specs.declared.Found.{Found}
-use Rattle.found.specs.declared.Found.TheVariants.{At, Nobody}
 use Rattle.mine_state.specs.declared.Mine.{Mine}
 use Rattle.mine_state.specs.State.{W, H, EMPTY, DIRT, WALL, BOULDER, COIN, EXIT, is_coin, is_boulder, place, code_at, empty_at, first_at, free_at}
 use Rattle.mine_state.specs.Change.{entered, with_grid}
 use Rattle.mine_state.specs.WellFormed.{WellFormed}
 use Rattle.mine_state.proofs.Facts.{sound}
-use Rattle.mine_rules.specs.declared.Ahead.{Ahead}
-use Rattle.mine_rules.specs.declared.Ahead.TheVariants.{Cell, Off}
 use Rattle.mine_rules.specs.Ways.{next_cell}
 use Rattle.mine_rules.specs.Move.{collected, pushed_to, pushed, sideways, met, meets, moved_to, moved}
 use Rattle.mine_rules.proofs.Next.{next-inside, home}
@@ -47,9 +45,9 @@ module _ {m : Mine} (w : WellFormed m) (x y : ℕ) (hx : x < W) (hy : y < H) whe
   kept_taken : is_coin (code_at m x y) ≡ true → Kept m (collected m x y)
   kept_taken c = kept-player (kept-collected (kept_self w) x y c) x y there
 
-  kept-pushed_to : is_boulder (code_at m x y) ≡ true → (a : Ahead) → Kept m (pushed_to m x y a)
-  kept-pushed_to b Off = kept_self w
-  kept-pushed_to b (Cell bx by) =
+  kept-pushed_to : is_boulder (code_at m x y) ≡ true → (a : Option (ℕ × ℕ)) → Kept m (pushed_to m x y a)
+  kept-pushed_to b None = kept_self w
+  kept-pushed_to b (Some (bx, by)) =
       cond_both (Kept m) (free_at m bx by) _ _
       (λ f. let t : code_at m x y ≡ BOULDER = eqb-true (code_at m x y) BOULDER b in
       let k : Kept m (with_grid m (set (set m.grid (place bx by) BOULDER) (place x y) EMPTY)) = rw t at (kept_shifted (kept_self w) x y bx by f) in
@@ -69,13 +67,13 @@ module _ {m : Mine} (w : WellFormed m) (x y : ℕ) (hx : x < W) (hy : y < H) whe
       (λ e. cond_both (Kept m) (sideways d) _ _ (λ _. kept-pushed_to e (next_cell d x y)) (λ _. kept_self w))
       (λ _. kept_self w)))))
 
-  kept-meets : (d : ℕ) (f : Found) → Kept m (meets m d x y f)
-  kept-meets d (At i n) = kept-killed (kept_self w)
-  kept-meets d Nobody = kept-met d
+  kept-meets : (d : ℕ) (f : Option Found) → Kept m (meets m d x y f)
+  kept-meets d (Some f) = kept-killed (kept_self w)
+  kept-meets d None = kept-met d
 
-kept_to : {m : Mine} → WellFormed m → (d : ℕ) (a : Ahead) → (next_cell d m.px m.py ≡ a) → Kept m (moved_to m d a)
-kept_to w d Off e = kept_self w
-kept_to {m} w d (Cell x y) e =
+kept_to : {m : Mine} → WellFormed m → (d : ℕ) (a : Option (ℕ × ℕ)) → (next_cell d m.px m.py ≡ a) → Kept m (moved_to m d a)
+kept_to w d None e = kept_self w
+kept_to {m} w d (Some (x, y)) e =
     let o = next-inside d m.px m.py (home (sound m w)) e in
     kept-meets w x y o.across o.down d (first_at m x y)
 

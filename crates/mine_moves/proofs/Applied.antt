@@ -1,7 +1,8 @@
 -- What a move's numbers make of a state, rule by rule. Assumes nothing.
-use mathlib.Core.Bool.{true}
+use Rattle.std.specs.Prelude.{Option, Some, None, is_some}
+use mathlib.Core.Bool.{Bool, true, cond}
 use mathlib.Core.List.{List}
-use mathlib.Core.Path.{◌≡◌, sym, ap, ◌∙◌}
+use mathlib.Core.Path.{◌≡◌, refl, sym, ap, ◌∙◌}
 use Prim.Native.Nat.{ℕ, ◌+◌}
 use lib.ListN.{set}
 use lib.Seq.{set-get_or}
@@ -9,7 +10,9 @@ use Rattle.mine_state.specs.declared.Mine.{Mine}
 use Rattle.mine_state.specs.State.{EMPTY, BOULDER, place, empty_at, code_in, first_at, free_at}
 use Rattle.mine_state.specs.Change.{with_grid, with_cell, entered, killed, winner}
 use Rattle.mine_state.proofs.Cells.{empty_code, empty-inside}
-use Rattle.mine_rules.specs.Move.{collected}
+use Rattle.found.specs.declared.Found.{Found}
+use Rattle.mine_rules.specs.Ways.{next_cell}
+use Rattle.mine_rules.specs.Move.{collected, met, meets, moved_to, moved}
 use Rattle.mine_apart.specs.CodeApart.{first_spot, free_spot, Stand}
 use Rattle.mine_apart.proofs.Places.{first_spot_lem, free_spot_lem}
 use Rattle.mine_moves.specs.declared.moves.Move.{Move}
@@ -32,6 +35,11 @@ pushing s bx by = record { player = s.player; at = place bx by; code = BOULDER }
 -- the player's own cell is empty already
 kept : (m : Mine) → empty_at m.grid m.px m.py ≡ true → set m.grid (place m.px m.py) EMPTY ≡ m.grid
 kept m e = ap (set m.grid (place m.px m.py)) (sym (empty_code m.grid m.px m.py e)) ∙ set-get_or m.grid (place m.px m.py) EMPTY
+
+-- somebody ahead kills, and else what is there is met
+meets_is : (m : Mine) (d x y : ℕ) (o : Option Found) → meets m d x y o ≡ cond (is_some o) (killed m) (met m d x y)
+meets_is m d x y (Some f) = refl
+meets_is m d x y None = refl
 
 module _ {m : Mine} {g spots : List ℕ} {s : Move} (p : Plays m g spots s) where
   own : set m.grid (place m.px m.py) EMPTY ≡ m.grid
@@ -73,3 +81,21 @@ module _ {m : Mine} {g spots : List ℕ} {s : Move} (p : Plays m g spots s) wher
 
   pub freed : (x y : ℕ) → free_at m x y ≡ free_spot g spots s.at x y
   freed x y = sym (free_spot_lem everyone x y) ∙ ap (λ (l : List ℕ). free_spot l spots s.at x y) p.cells
+
+  -- the step off the grid, and to a cell of it
+  ahead : (d : ℕ) {a : Option (ℕ × ℕ)} → next_cell d s.player.px s.player.py ≡ a → moved m d ≡ moved_to m d a
+  unfolding moved
+  ahead d e = ap (moved_to m d) (ap (λ (t : Move). next_cell d t.player.px t.player.py) (sym p.stays) ∙ e)
+
+  pub steps_off : (d : ℕ) → next_cell d s.player.px s.player.py ≡ None → m ≡ moved m d
+  steps_off d e = sym (ahead d e)
+
+  pub steps_to : (d x y : ℕ) {b : Bool} → OnGrid x y → next_cell d s.player.px s.player.py ≡ Some (x, y) → is_some (first_spot (place x y) spots) ≡ b
+      → cond b (killed m) (met m d x y) ≡ moved m d
+  steps_to d x y o e f =
+      sym (
+      ahead d e
+      ∙ ap (meets m d x y) (sym (asked x y o))
+      ∙ meets_is m d x y (first_spot (place x y) spots)
+      ∙ ap (λ (b : Bool). cond b (killed m) (met m d x y)) f
+      )

@@ -1,9 +1,8 @@
 -- What the steps of a move and of a creature tick ask, and what a creature's tells. No promise cites it.
-use Rattle.std.specs.Prelude.{Bool, true, ◌||◌, List, ◌≡◌, ℕ, ◌<◌, ◌≤◌, length, set}
+use Rattle.std.specs.Prelude.{Bool, true, ◌||◌, List, ◌≡◌, ℕ, ◌<◌, ◌≤◌, length, set, Option}
 use Rattle.mine_state.specs.declared.Mine.{Mine}
 use Rattle.mine_state.specs.declared.Enemy.{Enemy}
 use Rattle.mine_state.specs.State.{AREA, EMPTY, place, empty_at}
-use Rattle.mine_rules.specs.declared.Step.{Step}
 use Rattle.mine_apart.specs.CodeApart.{joined, standing, Spotted, Apart, Lent}
 use Rattle.mine_rules.specs.Move.{moved}
 use Rattle.mine_moves.specs.declared.moves.Move.{Move}
@@ -78,7 +77,7 @@ pub record Walks (g spots : List ℕ) (e : Enemy) : Type 0 where
   pub placed : on_map e ≡ true
 
 -- whatever else a state holds that has the lent grid and whose creatures are at the lent places: r is the step there
-abbrev pub Tells : List ℕ → List ℕ → Step → (Mine → Step) → Type 0
+abbrev pub Tells : List ℕ → List ℕ → Option Enemy → (Mine → Option Enemy) → Type 0
 Tells g spots r step = (m : Mine) → m.grid ≡ g → Spotted m.enemies m.count spots → r ≡ step m
 
 -- what a tick asks of the lent grid and creatures

@@ -48,11 +48,9 @@ fn tiles_of(text: &[u8; AREA]) -> [u8; AREA]
     requires { length text.now ≡ AREA }
     ensures { result ≡ table AREA (λ i. tile_of (get_or text.now i 0)) }
 {
-    let mut grid: [u8; AREA] = [WALL; AREA];
-    let mut i: usize = 0;
-    while i < AREA {
-        grid[i] = tile_of(text[i]);
-        i += 1;
+    let mut grid = [WALL; AREA];
+    for (at, c) in text.iter().enumerate() {
+        grid[at] = tile_of(*c);
     }
     grid
 }
@@ -67,12 +65,8 @@ fn mine_of(text: &[u8; AREA]) -> Mine
     let mut py: usize = 1;
     let mut enemies: [Enemy; MAX_ENEMIES] = [Enemy { x: 0, y: 0, dir: 0 }; MAX_ENEMIES];
     let mut count: usize = 0;
-    let mut i: usize = 0;
-    while i < AREA {
-        let c = text[i];
-        let at = i;
-        i += 1;
-        match c {
+    for (at, c) in text.iter().enumerate() {
+        match *c {
             b'P' => {
                 px = at % W;
                 py = at / W;
@@ -89,17 +83,16 @@ fn mine_of(text: &[u8; AREA]) -> Mine
         }
     }
     // Not every coin need survive the boulders, so ask for three quarters of them.
-    let asked = coin_count(&grid) as u32 * 3 / 4;
-    let needed = if asked == 0 { 1 } else { asked };
+    let needed = (coin_count(&grid) as u32 * 3 / 4).max(1);
     Mine {
-        grid: grid,
+        grid,
         falling: [false; AREA],
-        px: px,
-        py: py,
-        enemies: enemies,
-        count: count,
+        px,
+        py,
+        enemies,
+        count,
         coins: 0,
-        needed: needed,
+        needed,
         dead: false,
         won: false,
     }

@@ -3,14 +3,12 @@
 // What a move does is told as numbers, and every move changes the grid by the same stores.
 ghost use Rattle.std.specs.Prelude.{◌≡◌};
 ghost use Rattle.mine_state.specs.WellFormed.{WellFormed};
-ghost use Rattle.mine_rules.specs.Move.{pushed, met, moved};
-ghost use Rattle.mine_moves.specs.CodeSteps.{Lends, Meets, Makes, Inside, gone, Stands, Steps};
+ghost use Rattle.mine_rules.specs.Move.{sideways, pushed, met, moved};
+ghost use Rattle.mine_moves.specs.CodeSteps.{Lends, Meets, Makes, Inside, player_of, gone, playing, Stands, Steps};
 
 use crate::ways::next_cell;
 use controls::{LEFT, RIGHT};
-use found::Found;
 use mine_apart::{enemy_at, free, parts_of};
-use mine_rules::Ahead;
 use mine_state::{AREA, BOULDER, COIN, DIRT, EMPTY, EXIT, MAX_ENEMIES, Mine, W, WALL, at};
 
 // The player's part of a state.
@@ -25,6 +23,33 @@ pub struct Player {
     pub won: bool,
 }
 
+impl Player {
+    fn of(m: &Mine) -> Player
+        ensures { result ≡ player_of m.now }
+    {
+        Player {
+            px: m.px,
+            py: m.py,
+            coins: m.coins,
+            needed: m.needed,
+            dead: m.dead,
+            won: m.won,
+        }
+    }
+
+    // The state has this player instead.
+    fn put(self, m: &mut Mine)
+        ensures { m.new ≡ playing m.old.falling m.old.grid m.old.enemies m.old.count self }
+    {
+        m.px = self.px;
+        m.py = self.py;
+        m.coins = self.coins;
+        m.needed = self.needed;
+        m.dead = self.dead;
+        m.won = self.won;
+    }
+}
+
 // The player after a move, and one cell with its code. The player's own cell is empty besides.
 #[derive(Clone, Copy)]
 pub struct Move {
@@ -37,10 +62,21 @@ pub struct Move {
 fn go(s: Move, x: usize, y: usize) -> Move
     ensures { result ≡ gone s x y }
 {
-    let mut to = s;
-    to.player.px = x;
-    to.player.py = y;
-    to
+    Move {
+        player: Player {
+            px: x,
+            py: y,
+            ..s.player
+        },
+        ..s
+    }
+}
+
+// Along a row.
+fn sideways(dir: u8) -> bool
+    ensures { result ≡ sideways dir }
+{
+    matches!(dir, RIGHT | LEFT)
 }
 
 // Only a horizontal shove, and only into a free cell beyond. `s` is what staying is, so its cell is the player's.
@@ -48,20 +84,20 @@ fn push(grid: &[u8; AREA], spots: &[u16; MAX_ENEMIES], s: Move, dir: u8, x: usiz
     requires { Meets grid.now spots.now s x y }
     ensures { Makes grid.now spots.now s result (λ m. pushed m dir x y) × Inside result }
 {
-    let sideways = (dir == RIGHT) | (dir == LEFT);
-    if !sideways {
+    if !sideways(dir) {
         return s;
     }
-    let Ahead::Cell(bx, by) = next_cell(dir, x, y) else {
+    let Some((bx, by)) = next_cell(dir, x, y) else {
         return s;
     };
     if !free(grid, spots, s.at, bx, by) {
         return s;
     }
-    let mut to = go(s, x, y);
-    to.at = by * W + bx;
-    to.code = BOULDER;
-    to
+    Move {
+        at: by * W + bx,
+        code: BOULDER,
+        ..go(s, x, y)
+    }
 }
 
 // What the player meets at (x, y): dug, collected, pushed, or left as it is.
@@ -69,25 +105,27 @@ fn meet(grid: &[u8; AREA], spots: &[u16; MAX_ENEMIES], s: Move, dir: u8, x: usiz
     requires { Meets grid.now spots.now s x y }
     ensures { Makes grid.now spots.now s result (λ m. met m dir x y) × Inside result }
 {
-    let t = at(grid, x, y);
-    match t {
+    let p = s.player;
+    match at(grid, x, y) {
         WALL => s,
-        EXIT => {
-            if s.player.needed <= s.player.coins {
-                let mut to = s;
-                to.player.won = true;
-                return to;
+        EXIT => if p.needed <= p.coins {
+            Move {
+                player: Player { won: true, ..p },
+                ..s
             }
+        } else {
             s
-        }
-        DIRT => go(s, x, y),
-        EMPTY => go(s, x, y),
-        COIN => {
-            let mut to = go(s, x, y);
-            let coins = s.player.coins + 1;
-            to.player.coins = coins;
-            to
-        }
+        },
+        DIRT | EMPTY => go(s, x, y),
+        COIN => Move {
+            player: Player {
+                px: x,
+                py: y,
+                coins: p.coins + 1,
+                ..p
+            },
+            ..s
+        },
         BOULDER => push(grid, spots, s, dir, x, y),
         _ => s,
     }
@@ -98,13 +136,17 @@ fn decide(grid: &[u8; AREA], spots: &[u16; MAX_ENEMIES], s: Move, dir: u8) -> Mo
     requires { Lends grid.now spots.now s }
     ensures { Makes grid.now spots.now s result (λ m. moved m dir) × Inside result }
 {
-    let Ahead::Cell(x, y) = next_cell(dir, s.player.px, s.player.py) else {
+    let Some((x, y)) = next_cell(dir, s.player.px, s.player.py) else {
         return s;
     };
-    if let Found::At(_, _) = enemy_at(spots, y * W + x) {
-        let mut to = s;
-        to.player.dead = true;
-        return to;
+    if let Some(_) = enemy_at(spots, y * W + x) {
+        return Move {
+            player: Player {
+                dead: true,
+                ..s.player
+            },
+            ..s
+        };
     }
     meet(grid, spots, s, dir, x, y)
 }
@@ -120,37 +162,19 @@ pub fn step_on(grid: &mut [u8; AREA], spots: &[u16; MAX_ENEMIES], p: Player, dir
         code: EMPTY,
     };
     let to = decide(grid, spots, s, dir);
-    let q = to.player;
-    let cell = to.at;
-    let home = q.py * W + q.px;
-    grid[cell] = to.code;
-    grid[home] = EMPTY;
-    q
+    grid[to.at] = to.code;
+    grid[to.player.py * W + to.player.px] = EMPTY;
+    to.player
 }
 
 // Move the player by one step.
-pub fn step_player(m: Mine, dir: u8) -> Mine
+pub fn step_player(mut m: Mine, dir: u8) -> Mine
     requires { WellFormed m }
     ensures { result ≡ moved m dir }
 {
-    let enemies = m.enemies;
-    let parts = parts_of(enemies, m.count);
-    let spots = parts.spots;
-    let p = Player {
-        px: m.px,
-        py: m.py,
-        coins: m.coins,
-        needed: m.needed,
-        dead: m.dead,
-        won: m.won,
-    };
-    let mut next = m;
-    let to = step_on(&mut next.grid, &spots, p, dir);
-    next.px = to.px;
-    next.py = to.py;
-    next.coins = to.coins;
-    next.needed = to.needed;
-    next.dead = to.dead;
-    next.won = to.won;
-    next
+    let parts = parts_of(m.enemies, m.count);
+    let p = Player::of(&m);
+    let to = step_on(&mut m.grid, &parts.spots, p, dir);
+    to.put(&mut m);
+    m
 }

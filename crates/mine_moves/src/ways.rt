@@ -4,34 +4,18 @@ ghost use Rattle.mine_rules.specs.Ways.{next_cell};
 ghost use Rattle.mine_rules.specs.CodeWays.{OnGrid};
 
 use controls::{DOWN, RIGHT, UP};
-use mine_rules::Ahead;
 use mine_state::{H, W};
 
 // One step from (x, y) in the direction dir.
-pub fn next_cell(dir: u8, x: usize, y: usize) -> Ahead
+#[tactic(auto, unfolding(mine_rules::specs::Ways::next_cell))]
+pub fn next_cell(dir: u8, x: usize, y: usize) -> Option<(usize, usize)>
     requires { OnGrid x y }
     ensures { result ≡ next_cell dir x y }
 {
     match dir {
-        UP => if 0 < y {
-            Ahead::Cell(x, y - 1)
-        } else {
-            Ahead::Off
-        },
-        RIGHT => if x + 1 < W {
-            Ahead::Cell(x + 1, y)
-        } else {
-            Ahead::Off
-        },
-        DOWN => if y + 1 < H {
-            Ahead::Cell(x, y + 1)
-        } else {
-            Ahead::Off
-        },
-        _ => if 0 < x {
-            Ahead::Cell(x - 1, y)
-        } else {
-            Ahead::Off
-        },
+        UP => (0 < y).then(|| (x, y - 1)),
+        RIGHT => (x + 1 < W).then(|| (x + 1, y)),
+        DOWN => (y + 1 < H).then(|| (x, y + 1)),
+        _ => (0 < x).then(|| (x - 1, y)),
     }
 }

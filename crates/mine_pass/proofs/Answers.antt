@@ -1,12 +1,13 @@
 -- The ways through a pass, each as the definition has it. Assumes nothing.
+use Rattle.std.specs.Prelude.{Ok, Err}
 use mathlib.Core.Bool.{true, false, cond}
 use mathlib.Core.List.{List}
-use mathlib.Core.Path.{◌≡◌}
+use mathlib.Core.Path.{◌≡◌, sym, ◌∙◌}
 use Prim.Native.Nat.{ℕ}
-use borrow.Author.Tests.{eq-eqb}
+use Rattle.refusal.specs.Refusal.{Checked, NONE, clear}
+use Rattle.refusal.proofs.Calls.{turned_away, ok_zero}
+use Rattle.refusal.proofs.Checks.{clear_of}
 use Rattle.refusal.specs.declared.Refusal.{Refusal}
-use Rattle.refusal.specs.Refusal.{NONE, clear}
-use Rattle.refusal.proofs.Calls.{turned_away, none_of}
 use Rattle.answer.specs.declared.Answer.TheVariants.{GoingOn, Won, Dead, Quit}
 use Rattle.pace.specs.declared.Ticks.{Ticks}
 use Rattle.pace.specs.Pace.{both_ticks}
@@ -29,13 +30,13 @@ module _ (first second time : ℕ) (p : Played Mine) where
   after_ticks k t f g = rw (k, g, f, t)
 
 module _ (m : Mine) (keys : List ℕ) (time first second : ℕ) where
-  pub refused-pass : {no : Refusal} → no ≡ refusal_of m → (no.number ≡ 0 → ⊥) → still first second no GoingOn m ≡ pass_at m keys time first second
+  pub refused-pass : {no : Checked} {r : Refusal} → no ≡ refusal_of m → no ≡ Err r → still first second (Err r) GoingOn m ≡ pass_at m keys time first second
   unfolding pass_at
-  refused-pass e n = turned_away (λ (k : Refusal). still first second k GoingOn m) (pass_on first second m keys time) e n
+  refused-pass e n = turned_away (λ (k : Checked). still first second k GoingOn m) (pass_on first second m keys time) e n
 
-  module _ {no : Refusal} (e : no ≡ refusal_of m) (z : no.number ≡ 0) where
+  module _ {no : Checked} {u : Unit {0}} (e : no ≡ refusal_of m) (z : no ≡ Ok u) where
     none : clear (refusal_of m) ≡ true
-    none = eq-eqb (refusal_of m).number 0 (none_of e z)
+    none = clear_of (refusal_of m) (ok_zero (sym e ∙ z))
 
     pub won_pass : m.won ≡ true → still first second NONE Won m ≡ pass_at m keys time first second
     unfolding pass_at pass_on

@@ -1,7 +1,6 @@
 -- Document 01, 'One pass, and the pacing record': one turn of Block Mine's loop, on the numbers of the record.
 use Rattle.std.specs.Prelude.{cond, List, ℕ}
-use Rattle.refusal.specs.declared.Refusal.{Refusal}
-use Rattle.refusal.specs.Refusal.{NONE, refused_or}
+use Rattle.refusal.specs.Refusal.{Checked, NONE, refused_or}
 use Rattle.answer.specs.declared.Answer.{Answer}
 use Rattle.answer.specs.declared.Answer.TheVariants.{GoingOn, Won, Dead, Quit}
 use Rattle.pace.specs.declared.Pace.{Pace}
@@ -37,7 +36,7 @@ paced m due =
 
 module _ (first second : ℕ) where
   -- the record as it was
-  abbrev pub still : Refusal → Answer → Mine → MineTurn
+  abbrev pub still : Checked → Answer → Mine → MineTurn
   still refusal answer m = record { first = first; second = second; passed = record { refusal = refusal; answer = answer; game = m } }
 
   -- quit: no ticks; else both ticks of the reading

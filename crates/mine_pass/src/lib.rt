@@ -4,7 +4,7 @@
 
 use answer::Answer;
 use mine_state::Mine;
-use refusal::Refusal;
+use refusal::Checked;
 
 // Cycles between gravity ticks and creature ticks.
 pub const GRAVITY_CYCLES: u32 = 12_000_000;
@@ -13,7 +13,7 @@ pub const ENEMY_CYCLES: u32 = 36_000_000;
 
 #[derive(Clone, Copy)]
 pub struct MinePassed {
-    pub refusal: Refusal,
+    pub refusal: Checked,
     pub answer: Answer,
     pub game: Mine,
 }

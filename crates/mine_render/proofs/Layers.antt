@@ -1,17 +1,18 @@
 -- The picture's layers, one drawn on the other. Assumes nothing.
 use mathlib.Core.Path.{◌≡◌, refl, sym, ap, ◌∙◌}
-use mathlib.Core.Bool.{Bool, true, false, ◌||◌, ◌&&◌, and-false, or_assoc, or-false, and-or_distrib_right}
-use mathlib.Core.List.{List, []}
+use mathlib.Core.Bool.{Bool, true, false, ◌||◌, ◌&&◌, or_assoc, or-false, and-or_distrib_right}
+use mathlib.Core.List.{List}
 use Prim.Native.Nat.{ℕ, ◌+◌, ◌-◌, ◌/◌, ◌%◌, ◌<◌}
 use lib.Dec.{leb}
-use lib.ListN.{length, get_or, take}
+use lib.ListN.{length, get_or, take, replicate, length-replicate, get_or-replicate}
 use Rattle.laws.specs.Lists.{any}
 use Rattle.laws.proofs.Lists.{any-take}
 use Rattle.bits.specs.Bits.{art_bit}
-use Rattle.frame.specs.Frame.{pack, pixel}
-use Rattle.frame.specs.CodeDraw.{Framed, unlit, inked}
+use Rattle.bits.proofs.Number.{number-none}
+use Rattle.frame.specs.Frame.{FRAME_LEN, pack, pixel}
+use Rattle.frame.specs.CodeDraw.{unlit, inked}
 use Rattle.frame.proofs.Pack.{pack_ext}
-use Rattle.frame.proofs.Draw.{drawn_pack, parts, parts_more}
+use Rattle.frame.proofs.Draw.{drawn_pack, packed, parts, parts_more}
 use Rattle.mine_state.specs.declared.Enemy.{Enemy}
 use Rattle.mine_state.specs.declared.Mine.{Mine}
 use Rattle.mine_state.specs.State.{code_in, stands_at, creatures}
@@ -31,15 +32,17 @@ tile_more old cx cy k g o frame cols e h =
     ∙ pack_ext _ _ (λ x y hx hy. ap (λ (b : Bool). parts old (window cx cy (tile_lit g o)) tile_no k x y || b) (stamp_tile cx cy x y hx hy k g o))
     ∙ parts_more old (window cx cy (tile_lit g o)) tile_no k)
 
--- no creature, and one more
+-- a frame of zeros is blank
+pub blank : (frame : List ℕ) (n : ℕ) → n ≡ FRAME_LEN → frame ≡ replicate n 0 → frame ≡ pack unlit
+blank frame n e h =
+    rw (h, e) (packed (replicate FRAME_LEN 0) unlit (length-replicate {A = ℕ} FRAME_LEN 0) (λ k l. get_or-replicate {A = ℕ} FRAME_LEN k 0 0 l ∙ sym (number-none 8)))
+
+-- one creature more
 layer : (p h s t r : Bool) → (p || (h && (s && r)) || (h && (t && r))) ≡ (p || (h && ((s || t) && r)))
 layer p true s t r = or_assoc p (s && r) (t && r) ∙ ap (λ (b : Bool). p || b) (sym (and-or_distrib_right s t r))
 layer p false s t r = or-false (p || false)
 
 module _ (frame₀ : List ℕ) (es : List Enemy) (cx cy : ℕ) where
-  pub enemies_none : Framed frame₀ → frame₀ ≡ inked frame₀ (window cx cy (enemies_lit []))
-  enemies_none e = e ∙ pack_ext _ _ (λ x y hx hy. sym (ap (λ (b : Bool). pixel frame₀ x y || b) (and-false (leb 8 y)) ∙ or-false (pixel frame₀ x y)))
-
   pub enemies_more : (i : ℕ) (d : Enemy) (frame : List ℕ) → i < length es →
       frame ≡ inked frame₀ (window cx cy (enemies_lit (take i es))) →
       inked frame (window cx cy (sprite_lit (get_or es i d).x (get_or es i d).y ENEMY_PAT)) ≡ inked frame₀ (window cx cy (enemies_lit (take (i + 1) es)))

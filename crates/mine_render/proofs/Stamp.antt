@@ -1,11 +1,11 @@
 -- A tile's page bytes in the window: which pixels they light. Assumes nothing.
 use mathlib.Core.Path.{◌≡◌, refl, sym, ap, ◌∙◌}
-use mathlib.Core.Bool.{Bool, true, false, cond, ◌||◌, ◌&&◌, and-true, and-false, or-false}
+use mathlib.Core.Bool.{Bool, true, false, true≢false, cond, ◌||◌, ◌&&◌, and-true, and-false, or-false}
 use mathlib.Core.List.{List}
 use mathlib.Core.Logic.{◌⊎◌, inl, inr}
 use Prim.Native.Nat.{ℕ, ◌+◌, ◌-◌, ◌*◌, ◌/◌, ◌%◌, ◌≤◌, ◌<◌}
 use native.Mathlib.Omega.{arith}
-use borrow.Author.Tests.{eq-eqb, ne_eqb, le-leb, lt-leb}
+use borrow.Author.Tests.{eq-eqb, ne_eqb, le-leb, lt-leb, lt-ltb}
 use lib.Bits.{bit_or}
 use lib.Dec.{eqb, leb}
 use lib.ListN.{get_or, set}
@@ -21,7 +21,7 @@ use Rattle.mine_picture.specs.Art.{DIRT_PAT, WALL_PAT, BOULDER_PAT, COIN_PAT, EM
 use Rattle.mine_render.specs.declared.Tiles.{Tiles}
 use Rattle.laws.specs.Lists.{table}
 use Rattle.mine_picture.specs.Picture.{window}
-use Rattle.mine_render.specs.CodeDraw.{columns_in, columns_of, tiles_of, stamp_lit, tile_lit, sprite_lit}
+use Rattle.mine_render.specs.CodeDraw.{columns_in, columns_of, tiles_of, stamp_lit, tile_lit, sprite_lit, in_window}
 use Rattle.mine_state.specs.State.{DIRT, WALL, BOULDER, COIN, EXIT, code_in}
 
 -- a stamp lights nothing outside its tile
@@ -139,13 +139,16 @@ stamp_sprites cx cy x₀ y₀ pat frame cols lx ly e =
     rw e (pack_ext _ _ (λ x y hx hy. ap (λ (b : Bool). pixel frame x y || b) (stamp_sprite cx cy x y hx hy x₀ y₀ pat lx ly)))
 
 -- one who stands on no cell of the window lights nothing
-module _ (cx cy x y : ℕ) (pat frame : List ℕ) (e : Framed frame) where
-  pub outside : ((a b : ℕ) → a < 128 → b < 64 → x ≡ cx + a / 8 → y ≡ cy + (b - 8) / 8 → ⊥) → frame ≡ inked frame (window cx cy (sprite_lit x y pat))
-  outside n = e ∙ pack_ext _ _ (λ a b ha hb. sym
-      (ap (λ (t : Bool). pixel frame a b || t) (go a b (n a b ha hb) (same? x (cx + a / 8)) (same? y (cy + (b - 8) / 8))) ∙ or-false (pixel frame a b)))
-    where
-      go : (a b : ℕ) → (x ≡ cx + a / 8 → y ≡ cy + (b - 8) / 8 → ⊥) → (x ≡ cx + a / 8) ⊎ (x ≡ cx + a / 8 → ⊥) → (y ≡ cy + (b - 8) / 8) ⊎ (y ≡ cy + (b - 8) / 8 → ⊥)
-          → window cx cy (sprite_lit x y pat) a b ≡ false
-      go a b m (inl p) (inl q) = absurd (m p q)
-      go a b m (inl p) (inr q) = rw (eq-eqb x (cx + a / 8) p, ne_eqb y (cy + (b - 8) / 8) q) (and-false (leb 8 b))
-      go a b m (inr p) q = rw (ne_eqb x (cx + a / 8) p) (and-false (leb 8 b))
+module _ (cx cy x y : ℕ) (pat frame : List ℕ) (e : Framed frame) (off : in_window cx cy x y ≡ false) where
+  unlit_off : (a b : ℕ) → a < 128 → b < 64 → (x ≡ cx + a / 8) ⊎ (x ≡ cx + a / 8 → ⊥) → (y ≡ cy + (b - 8) / 8) ⊎ (y ≡ cy + (b - 8) / 8 → ⊥)
+      → window cx cy (sprite_lit x y pat) a b ≡ false
+  unlit_off a b ha hb (inl p) (inl q) =
+      let on : in_window cx cy x y ≡ true =
+      rw (le-leb cx x (omega arith), lt-ltb x (cx + 16) (omega arith), le-leb cy y (omega arith), lt-ltb y (cy + 7) (omega arith)) in
+      absurd (true≢false (sym on ∙ off))
+  unlit_off a b ha hb (inl p) (inr q) = rw (eq-eqb x (cx + a / 8) p, ne_eqb y (cy + (b - 8) / 8) q) (and-false (leb 8 b))
+  unlit_off a b ha hb (inr p) q = rw (ne_eqb x (cx + a / 8) p) (and-false (leb 8 b))
+
+  pub outside : frame ≡ inked frame (window cx cy (sprite_lit x y pat))
+  outside = e ∙ pack_ext _ _ (λ a b ha hb. sym
+      (ap (λ (t : Bool). pixel frame a b || t) (unlit_off a b ha hb (same? x (cx + a / 8)) (same? y (cy + (b - 8) / 8))) ∙ or-false (pixel frame a b)))

@@ -1,10 +1,10 @@
 -- The picture's parts, as the code draws them one on the other. No promise cites it.
-use Rattle.std.specs.Prelude.{Bool, cond, ◌&&◌, List, ◌≡◌, ℕ, ◌+◌, ◌/◌, ◌%◌, ◌<◌, ◌≤◌, eqb, length, get_or}
+use Rattle.std.specs.Prelude.{Bool, cond, ◌&&◌, List, ◌≡◌, ℕ, ◌+◌, ◌/◌, ◌%◌, ◌<◌, eqb, leb, ltb, length, get_or}
 use Rattle.laws.specs.Lists.{any, table}
 use Rattle.bits.specs.Bits.{number, bit_at, art_bit}
 use Rattle.frame.specs.CodeDraw.{Framed}
 use Rattle.mine_state.specs.declared.Enemy.{Enemy}
-use Rattle.mine_state.specs.State.{W, H, AREA, MAX_ENEMIES, DIRT, WALL, BOULDER, COIN, EXIT, code_in, stands_at}
+use Rattle.mine_state.specs.State.{AREA, DIRT, WALL, BOULDER, COIN, EXIT, code_in, stands_at}
 use Rattle.mine_picture.specs.Art.{DIRT_PAT, WALL_PAT, BOULDER_PAT, COIN_PAT, EMPTY_PAT, ENEMY_PAT, exit_art, art_of}
 use Rattle.mine_render.specs.declared.Tiles.{Tiles}
 use Rattle.mine_picture.specs.Picture.{TILE, VIEW_W, VIEW_H}
@@ -55,16 +55,11 @@ pub record Inside (frame : List ℕ) (col row : ℕ) (cols : List ℕ) : Type 0 
   pub across : col < VIEW_W
   pub down : row < VIEW_H
 
--- the cells from (cx, cy) on fill the window
-pub record Placed (frame : List ℕ) (cx cy : ℕ) : Type 0 where
+-- the cell (x, y) is one of the window's, whose top-left cell is (cx, cy)
+abbrev pub in_window : ℕ → ℕ → ℕ → ℕ → Bool
+in_window cx cy x y = leb cx x && ltb x (cx + VIEW_W) && leb cy y && ltb y (cy + VIEW_H)
+
+-- a frame and a whole grid
+pub record Tiled (frame g : List ℕ) : Type 0 where
   pub framed : Framed frame
-  pub across : cx + VIEW_W ≤ W
-  pub down : cy + VIEW_H ≤ H
-
-pub record Tiled (frame g : List ℕ) (cx cy : ℕ) : Type 0 where
   pub cells : length g ≡ AREA
-  pub placed : Placed frame cx cy
-
-pub record Peopled (frame : List ℕ) (n cx cy : ℕ) : Type 0 where
-  pub few : n ≤ MAX_ENEMIES
-  pub placed : Placed frame cx cy

@@ -1,17 +1,18 @@
 // Block Mine: the picture, in a lent frame.
 #![tactic(auto)]
 
-ghost use Rattle.std.specs.Prelude.{◌≡◌, length, take};
+ghost use Rattle.std.specs.Prelude.{◌≡◌, ◌+◌, ◌≤◌, length};
 ghost use Rattle.frame.specs.Frame.{FRAME_LEN, pack};
-ghost use Rattle.frame.specs.CodeDraw.{unlit, inked};
+ghost use Rattle.frame.specs.CodeDraw.{Framed, unlit, inked};
 ghost use Rattle.mine_picture.specs.Art.{exit_art};
-ghost use Rattle.mine_picture.specs.Picture.{camera_of, mine_lit, window};
-ghost use Rattle.mine_render.specs.CodeDraw.{Inside, Peopled, Placed, Tiled, columns_in, columns_of, enemies_lit, sprite_lit, stamp_lit, tile_lit, tiles_of};
+ghost use Rattle.mine_picture.specs.Picture.{VIEW_H, VIEW_W, camera_of, mine_lit, window};
+ghost use Rattle.mine_state.specs.State.{H, W};
+ghost use Rattle.mine_render.specs.CodeDraw.{Inside, Tiled, columns_in, columns_of, enemies_lit, in_window, sprite_lit, stamp_lit, tile_lit, tiles_of};
 ghost use Rattle.mine_picture.specs.CodePicture.{Drawable};
 
 use bits::TILE;
-use frame::{FRAME_LEN, PAGE_LEN};
-use mine_state::{AREA, BOULDER, COIN, DIRT, EXIT, Enemy, H, MAX_ENEMIES, Mine, W, WALL};
+use frame::PAGE_LEN;
+use mine_state::{AREA, BOULDER, COIN, DIRT, EXIT, Enemy, H, Mine, W, WALL};
 
 // The camera window, in tiles: 16 wide (128 px) and 7 tall, leaving a HUD row on top.
 pub const VIEW_W: usize = 16;
@@ -42,16 +43,36 @@ const EMPTY_PAT: [u8; 8] = [0, 0, 0, 0, 0, 0, 0, 0];
 pub fn camera(p: usize, view: usize, total: usize) -> usize
     ensures { result ≡ camera_of p view total }
 {
-    if total <= view {
-        return 0;
+    p.saturating_sub(view / 2).min(total.saturating_sub(view))
+}
+
+// The window's top-left tile; the grid's cells fill the window.
+#[derive(Clone, Copy)]
+struct View {
+    x: usize,
+    y: usize,
+    ghost across: { x + VIEW_W ≤ W },
+    ghost down: { y + VIEW_H ≤ H },
+}
+
+impl View {
+    // The window around a place.
+    fn around(px: usize, py: usize) -> View
+        ensures left { result.x ≡ camera_of px VIEW_W W }
+        ensures top { result.y ≡ camera_of py VIEW_H H }
+    {
+        View {
+            x: camera(px, VIEW_W, W),
+            y: camera(py, VIEW_H, H),
+        }
     }
-    if p <= view / 2 {
-        return 0;
+
+    // Whether the cell (x, y) is inside the window.
+    fn shows(self, x: usize, y: usize) -> bool
+        ensures { result ≡ in_window self.x self.y x y }
+    {
+        self.x <= x && x < self.x + VIEW_W && self.y <= y && y < self.y + VIEW_H
     }
-    if p - view / 2 <= total - view {
-        return p - view / 2;
-    }
-    total - view
 }
 
 // The columns of a tile as page bytes.
@@ -59,10 +80,8 @@ fn columns(pat: [u8; 8]) -> [u8; 8]
     ensures { result ≡ columns_of pat }
 {
     let mut out = [0u8; 8];
-    let mut gx: usize = 0;
-    while gx < TILE {
-        out[gx] = bits::column(pat, gx);
-        gx += 1;
+    for (gx, column) in out.iter_mut().enumerate() {
+        *column = bits::column(pat, gx);
     }
     out
 }
@@ -77,50 +96,42 @@ struct Tiles {
     exit: [u8; 8],
 }
 
-fn exit_columns(is_open: bool) -> [u8; 8]
-    ensures { result ≡ columns_of (exit_art is_open) }
-{
-    if is_open {
-        return columns(EXIT_OPEN_PAT);
+impl Tiles {
+    fn new(is_open: bool) -> Tiles
+        ensures { result ≡ tiles_of is_open }
+    {
+        Tiles {
+            dirt: columns(DIRT_PAT),
+            wall: columns(WALL_PAT),
+            boulder: columns(BOULDER_PAT),
+            coin: columns(COIN_PAT),
+            exit: columns(if is_open { EXIT_OPEN_PAT } else { EXIT_PAT }),
+        }
     }
-    columns(EXIT_PAT)
-}
 
-fn all_tiles(is_open: bool) -> Tiles
-    ensures { result ≡ tiles_of is_open }
-{
-    Tiles {
-        dirt: columns(DIRT_PAT),
-        wall: columns(WALL_PAT),
-        boulder: columns(BOULDER_PAT),
-        coin: columns(COIN_PAT),
-        exit: exit_columns(is_open),
-    }
-}
-
-// The columns of a cell's tile.
-fn tile_columns(t: Tiles, code: u8) -> [u8; 8]
-    ensures { result ≡ columns_in t code }
-{
-    match code {
-        DIRT => t.dirt,
-        WALL => t.wall,
-        BOULDER => t.boulder,
-        COIN => t.coin,
-        EXIT => t.exit,
-        _ => EMPTY_PAT,
+    // The columns of a cell's tile.
+    #[tactic(auto, unfolding(crate::specs::CodeDraw::columns_in))]
+    fn of(self, code: u8) -> [u8; 8]
+        ensures { result ≡ columns_in self code }
+    {
+        match code {
+            DIRT => self.dirt,
+            WALL => self.wall,
+            BOULDER => self.boulder,
+            COIN => self.coin,
+            EXIT => self.exit,
+            _ => EMPTY_PAT,
+        }
     }
 }
 
+// A blank frame.
+#[tactic(auto, using(crate::proofs::Layers::blank))]
 fn clear(frame: &mut [u8])
     requires { length frame.old ≡ FRAME_LEN }
     ensures { frame.new ≡ pack unlit }
 {
-    let mut i: usize = 0;
-    while i < FRAME_LEN {
-        frame[i] = 0;
-        i += 1;
-    }
+    frame.fill(0);
 }
 
 // Adds a tile's ink in column `col` and row `row` of the window.
@@ -130,64 +141,41 @@ fn blit(frame: &mut [u8], col: usize, row: usize, cols: [u8; 8])
 {
     let sy = HUD_H + row * TILE;
     let at = sy / TILE * PAGE_LEN + col * TILE;
-    let mut gx: usize = 0;
-    while gx < TILE {
-        frame[at + gx] |= cols[gx];
-        gx += 1;
+    for (gx, ink) in cols.iter().enumerate() {
+        frame[at + gx] |= *ink;
     }
 }
 
-// The tiles of the window whose top-left tile is (cam_x, cam_y).
-fn draw_tiles(frame: &mut [u8], grid: &[u8; AREA], is_open: bool, cam_x: usize, cam_y: usize)
-    requires { Tiled frame.old grid.now cam_x cam_y }
-    ensures { frame.new ≡ inked frame.old (window cam_x cam_y (tile_lit grid.now is_open)) }
+// The tiles of the window.
+fn draw_tiles(frame: &mut [u8], view: View, grid: &[u8; AREA], is_open: bool)
+    requires { Tiled frame.old grid.now }
+    ensures { frame.new ≡ inked frame.old (window view.x view.y (tile_lit grid.now is_open)) }
 {
-    let t = all_tiles(is_open);
-    let mut k: usize = 0;
-    while k < VIEW_W * VIEW_H {
+    let tiles = Tiles::new(is_open);
+    for k in 0..VIEW_W * VIEW_H {
         let col = k % VIEW_W;
         let row = k / VIEW_W;
-        let code = mine_state::at(grid, cam_x + col, cam_y + row);
-        blit(frame, col, row, tile_columns(t, code));
-        k += 1;
+        let code = mine_state::at(grid, view.x + col, view.y + row);
+        blit(frame, col, row, tiles.of(code));
     }
 }
 
 // One who stands at (x, y), if that is inside the window.
-fn draw_at(frame: &mut [u8], cam_x: usize, cam_y: usize, x: usize, y: usize, pat: [u8; 8])
-    requires { Placed frame.old cam_x cam_y }
-    ensures { frame.new ≡ inked frame.old (window cam_x cam_y (sprite_lit x y pat)) }
+fn draw_at(frame: &mut [u8], view: View, x: usize, y: usize, pat: [u8; 8])
+    requires { Framed frame.old }
+    ensures { frame.new ≡ inked frame.old (window view.x view.y (sprite_lit x y pat)) }
 {
-    if x < cam_x {
-        return;
+    if view.shows(x, y) {
+        blit(frame, x - view.x, y - view.y, columns(pat));
     }
-    if cam_x + VIEW_W <= x {
-        return;
-    }
-    if y < cam_y {
-        return;
-    }
-    if cam_y + VIEW_H <= y {
-        return;
-    }
-    blit(frame, x - cam_x, y - cam_y, columns(pat));
 }
 
-fn draw_enemies(
-    frame: &mut [u8],
-    enemies: [Enemy; MAX_ENEMIES],
-    count: usize,
-    cam_x: usize,
-    cam_y: usize,
-)
-    requires { Peopled frame.old count cam_x cam_y }
-    ensures { frame.new ≡ inked frame.old (window cam_x cam_y (enemies_lit (take count enemies))) }
+fn draw_enemies(frame: &mut [u8], view: View, enemies: &[Enemy])
+    requires { Framed frame.old }
+    ensures { frame.new ≡ inked frame.old (window view.x view.y (enemies_lit enemies.now)) }
 {
-    let mut i: usize = 0;
-    while i < count {
-        let e = enemies[i];
-        draw_at(frame, cam_x, cam_y, e.x, e.y, ENEMY_PAT);
-        i += 1;
+    for e in enemies {
+        draw_at(frame, view, e.x, e.y, ENEMY_PAT);
     }
 }
 
@@ -197,10 +185,8 @@ pub fn render(m: Mine, frame: &mut [u8])
     ensures { frame.new ≡ pack (mine_lit m) }
 {
     clear(frame);
-    let cam_x = camera(m.px, VIEW_W, W);
-    let cam_y = camera(m.py, VIEW_H, H);
-    draw_tiles(frame, &m.grid, m.needed <= m.coins, cam_x, cam_y);
-    let enemies = m.enemies;
-    draw_enemies(frame, enemies, m.count, cam_x, cam_y);
-    draw_at(frame, cam_x, cam_y, m.px, m.py, PLAYER_PAT);
+    let view = View::around(m.px, m.py);
+    draw_tiles(frame, view, &m.grid, m.needed <= m.coins);
+    draw_enemies(frame, view, &m.enemies[..m.count]);
+    draw_at(frame, view, m.px, m.py, PLAYER_PAT);
 }

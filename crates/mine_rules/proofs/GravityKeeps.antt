@@ -1,4 +1,5 @@
 -- One walk through the cases of a tick: what its five changes of a state keep, the tick keeps. Assumes nothing.
+use Rattle.std.specs.Prelude.{None, Option, Some}
 use mathlib.Core.Bool.{true, false, ◌&&◌, not}
 use mathlib.Core.Path.{◌≡◌, refl}
 use Prim.Native.Nat.{ℕ, ◌+◌, ◌-◌, ◌<◌}
@@ -8,7 +9,7 @@ use borrow.Author.Tests.{leb-false, lt-ltb, not-false}
 use Rattle.laws.proofs.Choice.{cond_both, and_left, and_right}
 use Rattle.laws.proofs.Folds.{across-keeps, down-keeps}
 use Rattle.found.specs.declared.Found.{Found}
-use Rattle.found.specs.declared.Found.TheVariants.{At, Nobody}
+use Rattle.found.specs.First.{At}
 use Rattle.mine_state.specs.declared.Mine.{Mine}
 use Rattle.mine_state.specs.State.{W, H, EMPTY, is_coin, code_at, marked, empty_at, player_at, first_at, free_at}
 use Rattle.mine_state.specs.Change.{killed}
@@ -29,7 +30,7 @@ pub record Keeps (P : Mine → Type 0) : Type 0 where
   pub squashes : (m : Mine) (x y i n : ℕ) → is_object (code_at m x y) ≡ true → empty_at m.grid x (y + 1) ≡ true → player_at m x (y + 1) ≡ false → first_at m x (y + 1) ≡ At i n → P m
       → P (carried (without m i) x y x (y + 1))
 
-is_free : (m : Mine) (x y : ℕ) → empty_at m.grid x y ≡ true → player_at m x y ≡ false → first_at m x y ≡ Nobody → free_at m x y ≡ true
+is_free : (m : Mine) (x y : ℕ) → empty_at m.grid x y ≡ true → player_at m x y ≡ false → first_at m x y ≡ None → free_at m x y ≡ true
 unfolding free_at
 is_free m x y a b c = rw (a, b, c)
 
@@ -47,11 +48,11 @@ module _ {P : Mine → Type 0} (k : Keeps P) (m : Mine) (x y : ℕ) (p : P m) wh
       (λ _. k.rests (killed m) x y (k.kills m p)))
 
   module _ (o : is_object (code_at m x y) ≡ true) where
-    over_found-keeps : empty_at m.grid x (y + 1) ≡ true → player_at m x (y + 1) ≡ false → (f : Found) → first_at m x (y + 1) ≡ f → P (over_found m x y f)
+    over_found-keeps : empty_at m.grid x (y + 1) ≡ true → player_at m x (y + 1) ≡ false → (f : Option Found) → first_at m x (y + 1) ≡ f → P (over_found m x y f)
     unfolding over_creature
-    over_found-keeps e n Nobody q = k.moves m x y x (y + 1) o (is_free m x (y + 1) e n q) p
-    over_found-keeps e n (At i j) q =
-        cond_both P (marked m x y) _ _ (λ _. k.squashes m x y i j o e n q p) (λ _. k.rests m x y p)
+    over_found-keeps e n None q = k.moves m x y x (y + 1) o (is_free m x (y + 1) e n q) p
+    over_found-keeps e n (Some f) q =
+        cond_both P (marked m x y) _ _ (λ _. k.squashes m x y f.index f.number o e n q p) (λ _. k.rests m x y p)
 
     over_empty-keeps : empty_at m.grid x (y + 1) ≡ true → P (over_empty m x y)
     unfolding over_empty

@@ -1,8 +1,7 @@
 -- Block Mine: what a gravity tick does.
-use Rattle.std.specs.Prelude.{Bool, true, false, cond, ◌&&◌, ◌||◌, not, List, ℕ, ◌+◌, ◌-◌, leb, ltb, eqb, get_or, set}
+use Rattle.std.specs.Prelude.{Bool, true, false, cond, ◌&&◌, ◌||◌, not, List, ℕ, ◌+◌, ◌-◌, leb, ltb, eqb, get_or, set, Option, Some, None}
 use Rattle.laws.specs.Lists.{across, down_to}
 use Rattle.found.specs.declared.Found.{Found}
-use Rattle.found.specs.declared.Found.TheVariants.{At, Nobody}
 use Rattle.mine_state.specs.declared.Mine.{Mine}
 use Rattle.mine_state.specs.declared.Enemy.{Enemy}
 use Rattle.mine_state.specs.State.{W, H, EMPTY, is_coin, is_boulder, place, code_at, marked, player_at, first_at, free_at, blank_slot}
@@ -46,9 +45,9 @@ unfoldable pub over_creature : Mine → ℕ → ℕ → ℕ → Mine
 over_creature m x y i = cond (marked m x y) (carried (without m i) x y x (y + 1)) (rested m x y)
 
 -- else it falls
-abbrev pub over_found : Mine → ℕ → ℕ → Found → Mine
-over_found m x y (At i n) = over_creature m x y i
-over_found m x y Nobody = carried m x y x (y + 1)
+abbrev pub over_found : Mine → ℕ → ℕ → Option Found → Mine
+over_found m x y (Some f) = over_creature m x y f.index
+over_found m x y None = carried m x y x (y + 1)
 
 -- over empty
 unfoldable pub over_empty : Mine → ℕ → ℕ → Mine

@@ -1,12 +1,9 @@
 -- Block Mine: a move.
-use Rattle.std.specs.Prelude.{Bool, cond, ◌||◌, ℕ, ◌+◌, leb, eqb}
+use Rattle.std.specs.Prelude.{Bool, cond, ◌||◌, ℕ, ◌+◌, leb, eqb, Option, Some, None}
 use Rattle.found.specs.declared.Found.{Found}
-use Rattle.found.specs.declared.Found.TheVariants.{At, Nobody}
 use Rattle.mine_state.specs.declared.Mine.{Mine}
 use Rattle.mine_state.specs.State.{EMPTY, DIRT, WALL, BOULDER, COIN, EXIT, code_at, first_at, free_at}
 use Rattle.mine_state.specs.Change.{entered, with_cell, with_coins, killed, winner}
-use Rattle.mine_rules.specs.declared.Ahead.{Ahead}
-use Rattle.mine_rules.specs.declared.Ahead.TheVariants.{Cell, Off}
 use Rattle.mine_rules.specs.Ways.{next_cell}
 use Rattle.controls.specs.Keys.{RIGHT, LEFT}
 
@@ -19,9 +16,9 @@ abbrev pub collected : Mine → ℕ → ℕ → Mine
 collected m x y = entered (with_coins m (m.coins + 1)) x y
 
 -- boulder: pushed if the next cell is on the grid, empty, without player or creature; marks don't change
-abbrev pub pushed_to : Mine → ℕ → ℕ → Ahead → Mine
-pushed_to m x y (Cell bx by) = cond (free_at m bx by) (entered (with_cell m bx by BOULDER) x y) m
-pushed_to m x y Off = m
+abbrev pub pushed_to : Mine → ℕ → ℕ → Option (ℕ × ℕ) → Mine
+pushed_to m x y (Some (bx, by)) = cond (free_at m bx by) (entered (with_cell m bx by BOULDER) x y) m
+pushed_to m x y None = m
 
 abbrev pub sideways : ℕ → Bool
 sideways d = eqb d RIGHT || eqb d LEFT
@@ -41,14 +38,14 @@ met m d x y =
     (cond (eqb t BOULDER) (pushed m d x y) m))))
 
 -- a creature there: dead, no move
-abbrev pub meets : Mine → ℕ → ℕ → ℕ → Found → Mine
-meets m d x y (At i n) = killed m
-meets m d x y Nobody = met m d x y
+abbrev pub meets : Mine → ℕ → ℕ → ℕ → Option Found → Mine
+meets m d x y (Some f) = killed m
+meets m d x y None = met m d x y
 
 -- off the grid, nothing
-abbrev pub moved_to : Mine → ℕ → Ahead → Mine
-moved_to m d Off = m
-moved_to m d (Cell x y) = meets m d x y (first_at m x y)
+abbrev pub moved_to : Mine → ℕ → Option (ℕ × ℕ) → Mine
+moved_to m d None = m
+moved_to m d (Some (x, y)) = meets m d x y (first_at m x y)
 
 unfoldable pub moved : Mine → ℕ → Mine
 moved m d = moved_to m d (next_cell d m.px m.py)

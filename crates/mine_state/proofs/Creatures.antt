@@ -10,7 +10,7 @@ use borrow.Author.Tests.{eqb-true, eqb-false, eq-eqb, ne_eqb, leb-true}
 use Rattle.laws.specs.Lists.{all, any}
 use Rattle.laws.proofs.Choice.{and_left, and_right, and_both}
 use Rattle.laws.proofs.Lists.{all_at, any_append}
-use Rattle.found.specs.declared.Found.TheVariants.{At}
+use Rattle.found.specs.First.{At}
 use Rattle.found.proofs.First.{first_bound}
 use Rattle.mine_state.specs.declared.Mine.{Mine}
 use Rattle.mine_state.specs.declared.Enemy.{Enemy}

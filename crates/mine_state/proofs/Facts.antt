@@ -6,7 +6,7 @@ use lib.ListN.{length, drop}
 use borrow.Author.Tests.{eqb-true, leb-true, eq-eqb, le-leb}
 use Rattle.laws.specs.Lists.{all}
 use Rattle.laws.proofs.Choice.{and_left, and_right, and_three}
-use Rattle.refusal.specs.Refusal.{NONE}
+use Rattle.refusal.specs.Refusal.{number_given, NONE}
 use Rattle.refusal.proofs.Checks.{none_passes, passes_none}
 use Rattle.mine_state.specs.declared.Mine.{Mine}
 use Rattle.mine_state.specs.State.{AREA, MAX_ENEMIES, is_code, creatures, purse}
@@ -22,7 +22,7 @@ unfolding cells_ok
 cells_ok_lem m a b e = simp (eq-eqb (length m.grid) AREA a, eq-eqb (length m.falling) AREA b) (sym e)
 
 -- no number is given where all four checks pass, and only there
-none-well_formed : (m : Mine) → (refusal_of m).number ≡ 0 → well_formed m ≡ true
+none-well_formed : (m : Mine) → number_given (refusal_of m) ≡ 0 → well_formed m ≡ true
 unfolding refusal_of well_formed
 none-well_formed m e = rw (fault_clear m) at (none_passes (cells_ok m) (player_ok m) (creatures_fault m) (numbers_ok m) e)
 
@@ -57,7 +57,7 @@ facts m e =
     }
 
 -- a state that is not refused is well formed
-pub accepted : (m : Mine) → (refusal_of m).number ≡ 0 → WellFormed m
+pub accepted : (m : Mine) → number_given (refusal_of m) ≡ 0 → WellFormed m
 accepted m e = facts m (none-well_formed m e)
 
 pub from_facts : (m : Mine) → WellFormed m → well_formed m ≡ true

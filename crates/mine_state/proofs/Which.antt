@@ -12,8 +12,7 @@ use borrow.Author.Tests.{leb-false, not-false}
 use Rattle.laws.specs.Lists.{all, any}
 use Rattle.laws.proofs.Choice.{and_left, and_right, and_both}
 use Rattle.laws.proofs.Lists.{all_append}
-use Rattle.refusal.specs.declared.Refusal.{Refusal}
-use Rattle.refusal.specs.Refusal.{OFF_GRID, WRONG_CELL, HEADING, SHARED_CELL, clear, unless, ◌then◌}
+use Rattle.refusal.specs.Refusal.{number_given, Checked, OFF_GRID, WRONG_CELL, HEADING, SHARED_CELL, clear, unless, ◌then◌}
 use Rattle.refusal.specs.Faults.{first_fault, room_for}
 use Rattle.refusal.specs.InPlace.{is_cause}
 use Rattle.refusal.proofs.Checks.{in_place_of_3, cause_given}
@@ -27,7 +26,7 @@ use Rattle.mine_state.proofs.Creatures.{with, apart_snoc}
 
 -- the four checks of a creature: where none fails, and which is the first that does
 module _ (i : ℕ) where
-  abbrev checks : Bool → Bool → Bool → Bool → Refusal
+  abbrev checks : Bool → Bool → Bool → Bool → Checked
   checks grid cell dir alone = unless grid (OFF_GRID i) then unless cell (WRONG_CELL i) then unless dir (HEADING i) then unless alone (SHARED_CELL i)
 
   checks_clear : (a b c d : Bool) → clear (checks a (a && b) c d) ≡ (a && b && c && d)
@@ -37,7 +36,7 @@ module _ (i : ℕ) where
   checks_clear true true true false = refl
   checks_clear true true true true = refl
 
-  checks_given : (P : Refusal → Type 0) (a b c d : Bool)
+  checks_given : (P : Checked → Type 0) (a b c d : Bool)
       → (a ≡ false → P (OFF_GRID i)) → (a ≡ true → b ≡ false → P (WRONG_CELL i))
       → (b ≡ true → c ≡ false → P (HEADING i)) → (b ≡ true → c ≡ true → d ≡ false → P (SHARED_CELL i))
       → clear (checks a b c d) ≡ false → P (checks a b c d)
@@ -110,7 +109,7 @@ module _ (m : Mine) where
       (λ h i l c. one_tells i l (right_to i (omega (arith, h.0, h.1)) c))
       (λ h c i l k. spare i l k (right_to m.count (omega (arith, h.0, h.1)) c))
 
-tells_cause : {m : Mine} {r : Refusal} → Tells m r → is_cause r.number ≡ true
+tells_cause : {m : Mine} {r : Checked} → Tells m r → is_cause (number_given r) ≡ true
 tells_cause (too_many _) = refl
 tells_cause (off_grid _ _ _ _) = refl
 tells_cause (wrong_cell _ _ _ _ _) = refl

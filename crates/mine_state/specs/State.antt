@@ -1,5 +1,5 @@
 -- Block Mine: what a state holds, and who stands where.
-use Rattle.std.specs.Prelude.{Bool, false, ◌&&◌, not, List, ℕ, ◌+◌, ◌*◌, leb, ltb, eqb, get_or, take}
+use Rattle.std.specs.Prelude.{Bool, false, ◌&&◌, not, List, ℕ, ◌+◌, ◌*◌, leb, ltb, eqb, get_or, take, Option}
 use Rattle.laws.specs.Lists.{count}
 use Rattle.found.specs.First.{first, nobody}
 use Rattle.found.specs.declared.Found.{Found}
@@ -80,7 +80,7 @@ abbrev pub stands_at : ℕ → ℕ → Enemy → Bool
 stands_at x y e = eqb e.x x && eqb e.y y
 
 -- the first creature at (x, y) and how many are there, or nobody
-abbrev pub first_at : Mine → ℕ → ℕ → Found
+abbrev pub first_at : Mine → ℕ → ℕ → Option Found
 first_at m x y = first (stands_at x y) (creatures m)
 
 -- free: on the grid, empty, without player or creature

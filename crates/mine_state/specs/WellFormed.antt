@@ -2,8 +2,7 @@
 use Rattle.std.specs.Prelude.{Bool, true, ◌&&◌, not, List, [], ◌∷◌, ◌≡◌, ℕ, ◌≤◌, leb, eqb, length, take, drop}
 use Rattle.laws.specs.Lists.{all, any}
 use Rattle.found.specs.First.{number}
-use Rattle.refusal.specs.declared.Refusal.{Refusal}
-use Rattle.refusal.specs.Refusal.{CELLS, PLAYER, OFF_GRID, WRONG_CELL, HEADING, SHARED_CELL, NUMBERS, unless, ◌then◌}
+use Rattle.refusal.specs.Refusal.{Checked, CELLS, PLAYER, OFF_GRID, WRONG_CELL, HEADING, SHARED_CELL, NUMBERS, unless, ◌then◌}
 use Rattle.refusal.specs.Faults.{fault_in}
 use Rattle.mine_state.specs.declared.Mine.{Mine}
 use Rattle.mine_state.specs.declared.Enemy.{Enemy}
@@ -40,7 +39,7 @@ creatures_ok m =
     && all is_blank (drop m.count m.enemies)
 
 -- the same by creature, of the one in the slot i: off the grid, on a wrong cell, its direction, a cell shared with an earlier creature
-unfoldable pub creature_fault : List ℕ → List Enemy → ℕ → Enemy → Refusal
+unfoldable pub creature_fault : List ℕ → List Enemy → ℕ → Enemy → Checked
 creature_fault g slots i e =
     unless (on_grid e.x e.y) (OFF_GRID i)
     then unless (empty_at g e.x e.y) (WRONG_CELL i)
@@ -48,7 +47,7 @@ creature_fault g slots i e =
     then unless (not (any (stands_at e.x e.y) (take i slots))) (SHARED_CELL i)
 
 -- too many first, then by creature, a slot past the count last
-unfoldable pub creatures_fault : Mine → Refusal
+unfoldable pub creatures_fault : Mine → Checked
 creatures_fault m = fault_in MAX_ENEMIES (creature_fault m.grid m.enemies) is_blank m.enemies m.count
 
 -- coins in hand plus coin cells at most 336; needed 1 to 336
@@ -59,12 +58,12 @@ unfoldable pub well_formed : Mine → Bool
 well_formed m = cells_ok m && player_ok m && creatures_ok m && numbers_ok m
 
 -- checked in the order 1, 2, the creatures' fault in place of 3, 4; the first that applies is given
-abbrev pub checked : Bool → Bool → Refusal → Bool → Refusal
+abbrev pub checked : Bool → Bool → Checked → Bool → Checked
 checked cells player fault numbers =
     unless cells CELLS then unless player PLAYER then fault then unless numbers NUMBERS
 
 -- the refusal that a state gets
-unfoldable pub refusal_of : Mine → Refusal
+unfoldable pub refusal_of : Mine → Checked
 refusal_of m = checked (cells_ok m) (player_ok m) (creatures_fault m) (numbers_ok m)
 
 -- what well-formedness says, part by part

@@ -1,8 +1,7 @@
 -- Document 02 (ix), 'Which creature is wrong': what a state gets in place of 3, and what that says.
 use Rattle.std.specs.Prelude.{true, false, ◌≡◌, ℕ, ◌≤◌, ◌<◌, get_or, take, drop}
 use Rattle.laws.specs.Lists.{all, any}
-use Rattle.refusal.specs.declared.Refusal.{Refusal}
-use Rattle.refusal.specs.Refusal.{TOO_MANY, OFF_GRID, WRONG_CELL, HEADING, SHARED_CELL, SPARE_SLOT}
+use Rattle.refusal.specs.Refusal.{number_given, Checked, TOO_MANY, OFF_GRID, WRONG_CELL, HEADING, SHARED_CELL, SPARE_SLOT}
 use Rattle.refusal.specs.Faults.{room_for}
 use Rattle.refusal.specs.InPlace.{is_cause, before, InPlaceOf3}
 use Rattle.mine_state.specs.declared.Mine.{Mine}
@@ -20,7 +19,7 @@ pub record RightTo (m : Mine) (i : ℕ) : Type 0 where
   pub distinct : apart (take i m.enemies) ≡ true
 
 -- what each number says of the creature or slot that it names, and of those before
-pub data Tells (m : Mine) : Refusal → Type 0 where
+pub data Tells (m : Mine) : Checked → Type 0 where
   too_many : room_for MAX_ENEMIES m.enemies m.count ≡ false → Tells m TOO_MANY
   off_grid : (i : ℕ) → i < m.count → RightTo m i → on_grid (slot_at m i).x (slot_at m i).y ≡ false → Tells m (OFF_GRID i)
   wrong_cell : (i : ℕ) → i < m.count → RightTo m i → on_grid (slot_at m i).x (slot_at m i).y ≡ true
@@ -35,4 +34,4 @@ pub data Tells (m : Mine) : Refusal → Type 0 where
 -- a state gets a cause where it got 3, and the cause says what is wrong
 pub record Which (m : Mine) : Type 0 where
   pub place : InPlaceOf3 (before (cells_ok m) (player_ok m) (creatures_ok m) (numbers_ok m)) (refusal_of m)
-  pub told : is_cause (refusal_of m).number ≡ true → Tells m (refusal_of m)
+  pub told : is_cause (number_given (refusal_of m)) ≡ true → Tells m (refusal_of m)

@@ -1,10 +1,12 @@
 // Block Mine: the state.
 #![tactic(auto)]
 
-ghost use Rattle.std.specs.Prelude.{◌≡◌, ◌≤◌, length};
+ghost use Rattle.std.specs.Prelude.{◌≡◌, ◌<◌, ◌≤◌, length};
 ghost use Rattle.laws.specs.Lists.{count};
 ghost use Rattle.mine_state.specs.State.{AREA, code_in, is_coin, stands_at};
 ghost use Rattle.mine_state.specs.CodeState.{CellOf};
+
+use found::Stands;
 
 // Level dimensions, in tiles.
 pub const W: usize = 24;
@@ -30,7 +32,7 @@ pub const EXIT: u8 = 5;
 
 // A creature, with the direction it last travelled (0 up, 1 right, 2 down, 3 left).
 #[repr(C)]
-#[derive(Clone, Copy)]
+#[derive(Clone, Copy, PartialEq, Eq, Debug)]
 pub struct Enemy {
     pub x: usize,
     pub y: usize,
@@ -66,24 +68,37 @@ pub fn at(grid: &[u8; AREA], x: usize, y: usize) -> u8
 pub fn stands_at(e: Enemy, x: usize, y: usize) -> bool
     ensures { result ≡ stands_at x y e }
 {
-    (e.x == x) & (e.y == y)
+    e.x == x && e.y == y
+}
+
+impl Stands for Enemy {
+    ghost stands = { stands_at };
+
+    fn stands_at(&self, x: usize, y: usize) -> bool {
+        stands_at(*self, x, y)
+    }
 }
 
 // The cells of half a grid, few enough to be counted in a byte.
 const HALF: usize = AREA / 2;
+
+// How many of half a grid's cells hold a coin, in a byte.
+fn coins_in(half: &[u8]) -> u8
+    requires { length half.now < 256 }
+    ensures { result ≡ count is_coin half.now }
+{
+    let mut n: u8 = 0;
+    for code in half {
+        n += (*code == COIN) as u8;
+    }
+    n
+}
 
 // How many cells hold a coin. Each half of the grid is counted in a byte.
 pub fn coin_count(grid: &[u8; AREA]) -> u16
     requires { length grid.now ≡ AREA }
     ensures { (result ≡ count is_coin grid.now) × (result ≤ AREA) }
 {
-    let mut upper: u8 = 0;
-    let mut lower: u8 = 0;
-    let mut i: usize = 0;
-    while i < HALF {
-        upper += (grid[i] == COIN) as u8;
-        lower += (grid[HALF + i] == COIN) as u8;
-        i += 1;
-    }
-    upper as u16 + lower as u16
+    let (upper, lower) = grid.split_at(HALF);
+    coins_in(upper) as u16 + coins_in(lower) as u16
 }

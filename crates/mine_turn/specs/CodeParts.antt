@@ -1,5 +1,5 @@
 -- What the keys of a pass ask of the lent parts of a state, and what they do to them. No promise cites it.
-use Rattle.std.specs.Prelude.{Bool, cond, List, ◌≡◌, ℕ, eqb, length}
+use Rattle.std.specs.Prelude.{Bool, List, ◌≡◌, ℕ, length}
 use Rattle.mine_state.specs.State.{MAX_ENEMIES}
 use Rattle.mine_state.specs.WellFormed.{WellFormed}
 use Rattle.mine_state.specs.declared.Enemy.{Enemy}
@@ -8,11 +8,6 @@ use Rattle.mine_moves.specs.declared.moves.Player.{Player}
 use Rattle.mine_moves.specs.CodeSteps.{playing}
 use Rattle.mine_turn.specs.declared.Pressed.{Pressed}
 use Rattle.mine_pass.specs.Pass.{keyed, played}
-use Rattle.controls.specs.Keys.{UP, RIGHT, DOWN, LEFT}
-
--- the direction of a key, and 4 for none
-abbrev pub dir_of : ℕ → ℕ
-dir_of key = cond (eqb key 5) UP (cond (eqb key 8) DOWN (cond (eqb key 7) LEFT (cond (eqb key 9) RIGHT 4)))
 
 -- with some marks and creatures at the lent places the lent parts are a well-formed state
 pub record Ready (g spots : List ℕ) (p : Player) : Type 0 where

@@ -8,10 +8,10 @@ ghost use Rattle.mine_rules.specs.Gravity.{gravity_of};
 ghost use Rattle.mine_moves.specs.CodeSteps.{Walkers, Ticked};
 ghost use Rattle.mine_fall.specs.CodePlaces.{Falling, Dropped};
 ghost use Rattle.mine_pass.specs.Pass.{played, after_keys, pass_at};
-ghost use Rattle.mine_turn.specs.CodeParts.{dir_of, Ready, Keyed, Plays};
+ghost use Rattle.mine_turn.specs.CodeParts.{Ready, Keyed, Plays};
 
 use answer::Answer;
-use controls::{DOWN, KEY_DOWN, KEY_LEFT, KEY_QUIT, KEY_RIGHT, KEY_UP, LEFT, RIGHT, UP};
+use controls::{KEY_QUIT, dir_of};
 use mine_apart::{enemies_of, parts_of};
 use mine_check::check;
 use mine_fall::{Fallen, gravity_on};
@@ -19,7 +19,7 @@ use mine_moves::{Player, step_on, tick_on};
 use mine_pass::{ENEMY_CYCLES, GRAVITY_CYCLES, MinePassed, MineTurn};
 use mine_state::{AREA, MAX_ENEMIES, Mine};
 use pace::both_ticks;
-use refusal::Refusal;
+use refusal::Checked;
 
 // The player's part after the keys, where the rest is lent, and whether one of them quit.
 #[derive(Clone, Copy)]
@@ -28,52 +28,30 @@ pub struct Pressed {
     pub quit: bool,
 }
 
-// No direction: of a key that doesn't move.
-const NOWHERE: u8 = 4;
-
-fn dir_of(key: u8) -> u8
-    ensures { result ≡ dir_of key }
-{
-    match key {
-        KEY_UP => UP,
-        KEY_DOWN => DOWN,
-        KEY_LEFT => LEFT,
-        KEY_RIGHT => RIGHT,
-        _ => NOWHERE,
-    }
-}
-
 fn press(grid: &mut [u8; AREA], spots: &[u16; MAX_ENEMIES], p: Player, key: u8) -> Player
     requires { Ready grid.old spots.now p }
     ensures { Keyed grid.old spots.now p key grid.new result }
 {
-    let dir = dir_of(key);
-    if dir < NOWHERE {
-        return step_on(grid, spots, p, dir);
+    match dir_of(key) {
+        Some(dir) => step_on(grid, spots, p, dir),
+        None => p,
     }
-    p
 }
 
 fn play(grid: &mut [u8; AREA], spots: &[u16; MAX_ENEMIES], p: Player, keys: &[u8]) -> Pressed
     requires { Ready grid.old spots.now p }
     ensures { Plays grid.old spots.now p keys.now grid.new result }
 {
-    let mut to = p;
-    let mut i: usize = 0;
-    while i < keys.len() {
-        let key = keys[i];
-        if key == KEY_QUIT {
-            return Pressed {
-                quit: true,
-                player: to,
-            };
+    let mut player = p;
+    for key in keys {
+        if *key == KEY_QUIT {
+            return Pressed { player, quit: true };
         }
-        to = press(grid, spots, to, key);
-        i += 1;
+        player = press(grid, spots, player, *key);
     }
     Pressed {
+        player,
         quit: false,
-        player: to,
     }
 }
 
@@ -115,18 +93,17 @@ fn enemies_if(
     false
 }
 
-fn turn(first: u32, second: u32, refusal: Refusal, answer: Answer, game: Mine) -> MineTurn
+fn turn(first: u32, second: u32, refusal: Checked, answer: Answer, game: Mine) -> MineTurn
     ensures { result ≡ record { first = first; second = second; passed = record { refusal = refusal; answer = answer; game = game } } }
 {
-    let passed = MinePassed {
-        refusal: refusal,
-        answer: answer,
-        game: game,
-    };
     MineTurn {
-        first: first,
-        second: second,
-        passed: passed,
+        first,
+        second,
+        passed: MinePassed {
+            refusal,
+            answer,
+            game,
+        },
     }
 }
 
@@ -157,11 +134,11 @@ fn go_on(m: Mine, keys: &[u8], time: u32, first: u32, second: u32) -> MineTurn
     game.dead = q.dead;
     game.won = q.won;
     if pressed.quit {
-        return turn(first, second, refusal::NONE, Answer::Quit, game);
+        return turn(first, second, Ok(()), Answer::Quit, game);
     }
     let due = both_ticks(time, first, second, GRAVITY_CYCLES, ENEMY_CYCLES);
     if !(due.one | due.two) {
-        return turn(first, second, refusal::NONE, Answer::GoingOn, game);
+        return turn(first, second, Ok(()), Answer::GoingOn, game);
     }
     let mut falling = game.falling;
     let s = Fallen {
@@ -188,22 +165,21 @@ fn go_on(m: Mine, keys: &[u8], time: u32, first: u32, second: u32) -> MineTurn
     game.count = f.count;
     game.coins = f.coins;
     game.dead = caught | f.dead;
-    turn(due.first, due.second, refusal::NONE, Answer::GoingOn, game)
+    turn(due.first, due.second, Ok(()), Answer::GoingOn, game)
 }
 
 // The state is checked once; a round that has ended is left as it is.
 pub fn pass_at(m: Mine, keys: &[u8], time: u32, first: u32, second: u32) -> MineTurn
     ensures { result ≡ pass_at m keys.now time first second }
 {
-    let no = check(m);
-    if no.number != refusal::NONE.number {
-        return turn(first, second, no, Answer::GoingOn, m);
+    if let Err(no) = check(m) {
+        return turn(first, second, Err(no), Answer::GoingOn, m);
     }
     if m.won {
-        return turn(first, second, refusal::NONE, Answer::Won, m);
+        return turn(first, second, Ok(()), Answer::Won, m);
     }
     if m.dead {
-        return turn(first, second, refusal::NONE, Answer::Dead, m);
+        return turn(first, second, Ok(()), Answer::Dead, m);
     }
     go_on(m, keys, time, first, second)
 }

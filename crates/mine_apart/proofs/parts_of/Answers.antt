@@ -24,11 +24,11 @@ loop-i-preserved c =
     let v = c.loop-i.invariant in
     let eight : length es ≡ MAX_ENEMIES = search (rules, mapped) in
     let h : i < MAX_ENEMIES = c.loop-i-test.true in
-    let spots = fill_more c.loop-i.spots (spots_from n es) i c.spot_or-at.result 0 (omega (arith, v.1)) (omega (arith, length_spots n es)) v.3
-    (stored n es i (omega arith) c.spot_or-at.ensures) in
-    let dirs = fill_more c.loop-i.dirs (map dir_of es) i (get_or es i blank_slot).dir 0 (omega (arith, v.2)) (simp length-map (omega arith)) v.4
+    let spots = fill_more c.loop-i.spots (spots_from n es) i c.spot_or.result 0 (omega (arith, v.0)) (omega (arith, length_spots n es)) v.2
+    (stored n es i (omega arith) c.spot_or.ensures) in
+    let dirs = fill_more c.loop-i.dirs (map dir_of es) i (get_or es i blank_slot).dir 0 (omega (arith, v.1)) (simp length-map (omega arith)) v.3
     (sym (get_or-map dir_of es i blank_slot)) in
-    (omega arith, simp length-set v.1, simp length-set v.2, spots, dirs)
+    (simp length-set v.0, simp length-set v.1, spots, dirs)
 
 pub returns : goal.returns
 returns c =
@@ -36,7 +36,7 @@ returns c =
     let n = c.args.count in
     let v = c.loop-i.invariant in
     let eight : length es ≡ MAX_ENEMIES = search (rules, mapped) in
-    let e : c.loop-i.i ≡ MAX_ENEMIES = omega (arith, v.0, c.loop-i-test.false) in
-    let spots = fill_end c.loop-i.spots (spots_from n es) MAX_ENEMIES v.1 (length_spots n es ∙ eight) (rw e at v.3) in
-    let dirs = fill_end c.loop-i.dirs (map dir_of es) MAX_ENEMIES v.2 (length-map es dir_of ∙ eight) (rw e at v.4) in
+    let e : c.loop-i.i ≡ MAX_ENEMIES = omega (arith, c.loop-i.auto.i-end, c.loop-i-test.false) in
+    let spots = fill_end c.loop-i.spots (spots_from n es) MAX_ENEMIES v.0 (length_spots n es ∙ eight) (rw e at v.2) in
+    let dirs = fill_end c.loop-i.dirs (map dir_of es) MAX_ENEMIES v.1 (length-map es dir_of ∙ eight) (rw e at v.3) in
     rw (spots, dirs)

@@ -1,12 +1,9 @@
 use mathlib.Core.Path.{◌≡◌}
-use Prim.Native.Nat.{◌%◌, ◌≤◌, ◌-◌}
+use Prim.Native.Nat.{◌%◌}
 use Rattle.frame.specs.Frame.{pack, pixel}
 use Rattle.frame.proofs.Draw.{parts}
 use Rattle.mine_render.specs.CodeDraw.{stamp_lit}
 use Rattle.mine_render.proofs.blit.Given as goal
 
 abbrev pub invariant-loop-gx : goal.invariant-loop-gx
-invariant-loop-gx l = (l.gx ≤ 8) × (l.frame ≡ pack (parts (pixel l.initial.frame) (stamp_lit l.col l.row l.cols) (λ x y. x % 8) l.gx))
-
-abbrev pub decreases-loop-gx : goal.decreases-loop-gx
-decreases-loop-gx l = 8 - l.gx
+invariant-loop-gx l = l.frame ≡ pack (parts (pixel l.initial.frame) (stamp_lit l.col l.row l.fn.cols) (λ x y. x % 8) l.gx)

@@ -1,20 +1,15 @@
 use native.Mathlib.Omega.{arith}
-use mathlib.Core.Path.{◌∙◌}
+use mathlib.Core.Path.{sym, ◌∙◌}
+use Rattle.std.proofs.lemmas.Bool.Decides.{nat_tests}
 use Rattle.mine_render.proofs.Stamp.{outside, stamp_sprites}
 use Rattle.mine_render.proofs.draw_at.Goals as goal
 
-pub returns-then-cam_x-x : goal.returns-then-cam_x-x
-returns-then-cam_x-x c =
+pub returns-then-shows : goal.returns-then-shows
+returns-then-shows c =
     let a = c.args in
-    outside a.cam_x a.cam_y a.x a.y a.pat a.frame.now c.requires.framed (λ u v hu hv p q. omega arith)
+    c.blit.ensures ∙ stamp_sprites a.view.x a.view.y a.x a.y a.pat a.frame.now _ (grind (arith, nat_tests)) (grind (arith, nat_tests)) c.columns.ensures
 
-pub returns-then-cam_y-y : goal.returns-then-cam_y-y
-returns-then-cam_y-y c =
+pub returns-else-shows : goal.returns-else-shows
+returns-else-shows c =
     let a = c.args in
-    outside a.cam_x a.cam_y a.x a.y a.pat a.frame.now c.requires.framed (λ u v hu hv p q. omega arith)
-
-pub returns : goal.returns
-returns c =
-    let a = c.args in
-    c.blit.ensures
-    ∙ stamp_sprites a.cam_x a.cam_y a.x a.y a.pat a.frame.now _ (omega arith) (omega arith) c.columns.ensures
+    outside a.view.x a.view.y a.x a.y a.pat a.frame.now c.requires (sym c.if-shows.ensures)

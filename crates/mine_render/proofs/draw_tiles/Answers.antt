@@ -13,9 +13,8 @@ use Rattle.mine_render.proofs.draw_tiles.Goals as goal
 pub blit-requires : goal.blit-requires
 blit-requires c =
     record {
-      framed = rw c.loop-k.invariant.1 (framed-pack _);
-      bytes = columns-bytes _ (art_of c.at-code.result c.args.is_open)
-          (tile_columns_of _ _ _ _ c.all_tiles-t.ensures c.tile_columns.ensures);
+      framed = rw c.loop-k.invariant (framed-pack _);
+      bytes = columns-bytes _ (art_of c.at-code.result c.args.is_open) (tile_columns_of _ _ _ _ c.new-tiles.ensures c.of.ensures);
       across = omega arith;
       down = omega arith;
     }
@@ -23,16 +22,13 @@ blit-requires c =
 pub loop-k-preserved : goal.loop-k-preserved
 loop-k-preserved c =
     let a = c.args in
-    let l = c.loop-k in (
-      omega arith,
-      c.blit.ensures
-          ∙ tile_more (pixel a.frame.now) a.cam_x a.cam_y l.k a.grid.now a.is_open l.frame _ l.invariant.1
-          (tile_columns_of _ _ _ _ c.all_tiles-t.ensures
-          c.tile_columns.ensures ∙ ap (λ (t : ℕ). columns_of (art_of t a.is_open)) c.at-code.ensures),
-    )
+    let l = c.loop-k in
+    c.blit.ensures
+    ∙ tile_more (pixel a.frame.now) a.view.x a.view.y l.k a.grid.now a.is_open l.frame _ l.invariant
+    (tile_columns_of _ _ _ _ c.new-tiles.ensures c.of.ensures ∙ ap (λ (t : ℕ). columns_of (art_of t a.is_open)) c.at-code.ensures)
 
 pub returns : goal.returns
 returns c =
     let a = c.args in
     let e : c.loop-k.k ≡ 112 = omega arith in
-    c.loop-k.invariant.1 ∙ rw e (parts_all (pixel a.frame.now) (window a.cam_x a.cam_y (tile_lit a.grid.now a.is_open)) tile_no 112 (λ x y hx hy. omega arith))
+    c.loop-k.invariant ∙ rw e (parts_all (pixel a.frame.now) (window a.view.x a.view.y (tile_lit a.grid.now a.is_open)) tile_no 112 (λ x y hx hy. omega arith))

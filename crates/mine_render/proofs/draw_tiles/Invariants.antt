@@ -1,5 +1,4 @@
 use mathlib.Core.Path.{◌≡◌}
-use Prim.Native.Nat.{◌≤◌, ◌-◌}
 use Rattle.frame.specs.Frame.{pack, pixel}
 use Rattle.frame.proofs.Draw.{parts}
 use Rattle.mine_picture.specs.Picture.{window}
@@ -8,7 +7,4 @@ use Rattle.mine_render.proofs.Stamp.{tile_no}
 use Rattle.mine_render.proofs.draw_tiles.Given as goal
 
 abbrev pub invariant-loop-k : goal.invariant-loop-k
-invariant-loop-k l = (l.k ≤ 112) × (l.frame ≡ pack (parts (pixel l.initial.frame) (window l.cam_x l.cam_y (tile_lit l.grid l.is_open)) tile_no l.k))
-
-abbrev pub decreases-loop-k : goal.decreases-loop-k
-decreases-loop-k l = 112 - l.k
+invariant-loop-k l = l.frame ≡ pack (parts (pixel l.initial.frame) (window l.view.x l.view.y (tile_lit l.grid l.fn.is_open)) tile_no l.k)

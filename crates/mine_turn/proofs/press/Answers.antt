@@ -1,7 +1,10 @@
+use mathlib.Core.Path.{sym, ◌∙◌, ap}
 use native.Mathlib.Omega.{arith}
 use Rattle.mine_state.proofs.Facts.{sound}
+use Rattle.mine_rules.specs.Move.{moved}
 use Rattle.mine_rules.proofs.Next.{home}
-use Rattle.mine_turn.proofs.Keys.{key_moves, key_stays}
+use Rattle.controls.specs.Keys.{turned}
+use Rattle.controls.proofs.Keys.{keyed-turned}
 use Rattle.mine_turn.proofs.press.Goals as goal
 
 pub step_on-requires : goal.step_on-requires
@@ -15,10 +18,10 @@ step_on-requires c =
       purse = omega (arith, w.coins);
     }
 
-pub returns-then-dir-lt-NOWHERE : goal.returns-then-dir-lt-NOWHERE
-returns-then-dir-lt-NOWHERE c =
-    λ f es n w. key_moves _ c.args.key c.dir_of-dir.ensures c.if-dir-lt-NOWHERE.true (c.step_on.ensures f es n w)
+pub returns-in-Some : goal.returns-in-Some
+returns-in-Some c =
+    λ f es n w. keyed-turned moved _ c.args.key ∙ ap (turned moved _) (sym c.in-Some.ensures) ∙ c.step_on.ensures f es n w
 
-pub returns : goal.returns
-returns c =
-    λ f es n w. key_stays _ c.args.key c.dir_of-dir.ensures c.if-dir-lt-NOWHERE.false
+pub returns-in-None : goal.returns-in-None
+returns-in-None c =
+    λ f es n w. keyed-turned moved _ c.args.key ∙ ap (turned moved _) (sym c.in-None.ensures)

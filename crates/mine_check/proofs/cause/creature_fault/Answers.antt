@@ -21,14 +21,14 @@ returns-then-e-gt3 c =
       lt-leb _ _ c.if-e-gt3.true,
     )
 
-pub returns-then-shared : goal.returns-then-shared
+pub returns-then-met : goal.returns-then-met
 unfolding creature_fault
-returns-then-shared c =
+returns-then-met c =
     simp (
       sym c.on_grid.ensures ∙ c.if-not-on_grid.false,
       sym c.empty_at.ensures ∙ c.if-not-empty_at.false,
       le-leb _ _ c.if-e-gt3.false,
-      sym c.shared.ensures ∙ c.if-shared.true,
+      sym c.met.ensures ∙ c.if-met.true,
     )
 
 pub returns : goal.returns
@@ -38,5 +38,5 @@ returns c =
       sym c.on_grid.ensures ∙ c.if-not-on_grid.false,
       sym c.empty_at.ensures ∙ c.if-not-empty_at.false,
       le-leb _ _ c.if-e-gt3.false,
-      sym c.shared.ensures ∙ c.if-shared.false,
+      sym c.met.ensures ∙ c.if-met.false,
     )

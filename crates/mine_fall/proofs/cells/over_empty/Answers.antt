@@ -27,8 +27,8 @@ unfolding over_empty over_creature without
 returns-then-falling-i c =
     λ m s.
     let h = c.requires.here.cell in
-    let k = c.in-At.k in
-    let t = sym c.in-At.ensures in
+    let k = c.in-Some.found.index in
+    let t = sym c.in-Some.ensures in
     let p = off-player s c.args.x (c.args.y + 1) h.across c.if-player-at.false in
     let q = found s c.args.x (c.args.y + 1) h.across h.down t in
     simp (p, q, c.if-falling-i.true) ((c.move_obj-then-falling-i.ensures (without m k)).0, spot_below m s.spotted c.args.x (c.args.y + 1) k _ h.across h.down t)
@@ -40,5 +40,5 @@ returns c =
     let h = c.requires.here.cell in
     let p = off-player s c.args.x (c.args.y + 1) h.across c.if-player-at.false in
     let q = found s c.args.x (c.args.y + 1) h.across h.down
-    (sym c.in-At.ensures) in
+    (sym c.in-Some.ensures) in
     simp (p, q, c.if-falling-i.false) (refl, omega arith)

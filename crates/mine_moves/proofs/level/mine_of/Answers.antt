@@ -1,51 +1,43 @@
+use mathlib.Core.Bool.{cond}
 use mathlib.Core.List.{List}
-use mathlib.Core.Path.{sym, ap}
-use Prim.Native.Nat.{ℕ}
+use mathlib.Core.Path.{◌≡◌, refl, sym, ap, ◌∙◌}
+use Prim.Native.Nat.{ℕ, zero, suc, max}
 use native.Mathlib.Omega.{arith}
-use borrow.Author.Tests.{lt-ltb, le-ltb, eq-eqb, ne_eqb}
+use lib.Dec.{eqb}
+use borrow.Author.Tests.{lt-ltb, le-ltb}
+use Rattle.std.proofs.Common.{rules}
 use Rattle.laws.proofs.Table.{table_none}
 use Rattle.mine_state.specs.Change.{with_grid}
 use Rattle.mine_rules.specs.Load.{unread, read_from}
 use Rattle.mine_moves.proofs.Reading.{read_player, read_creature, read_tile, read_done, asked}
+use Rattle.mine_moves.proofs.level.mine_of.Goals.{in-80, in-69+then-count-lt-MAX_ENEMIES, in-69+else-count-lt-MAX_ENEMIES, in_default}
 use Rattle.mine_moves.proofs.level.mine_of.Goals as goal
 
-pub loop-i-init : goal.loop-i-init
-loop-i-init c = (omega arith, ap (λ (g : List ℕ). read_from c.args.text.now 0 (with_grid unread g)) (sym (table_none _ _)))
+one_least : (q : ℕ) → cond (eqb q 0) 1 q ≡ max q 1
+one_least zero = refl
+one_least (suc n) = grind arith
 
-pub loop-i-preserved-in-80 : goal.loop-i-preserved-in-80
-loop-i-preserved-in-80 c =
-    let s = c.loop-i in
-    let text = c.args.text.now in
-    (omega arith, read_player text s.i s.px s.py s.enemies s.count s.invariant.1 (omega arith) c.in-80.is)
+pub loop-at-init : goal.loop-at-init
+loop-at-init c = ap (λ (g : List ℕ). read_from c.args.text.now 0 (with_grid unread g)) (sym (table_none _ _))
 
-pub loop-i-preserved-then-count-lt-MAX_ENEMIES : goal.loop-i-preserved-then-count-lt-MAX_ENEMIES
-loop-i-preserved-then-count-lt-MAX_ENEMIES c =
-    let s = c.loop-i in
+pub loop-at-preserved : goal.loop-at-preserved
+loop-at-preserved c =
+    let s = c.loop-at in
     let text = c.args.text.now in
-    (omega arith, read_creature text s.i s.px s.py s.enemies s.count s.invariant.1 (omega arith) c.in-69.is (simp (lt-ltb _ _ c.if-count-lt-MAX_ENEMIES.true)))
+    let h = c.loop-at-test.true in
+    elim c.match-c.branch [
+      | in-80 w ↦ rw (w.px-is, w.py-is, w.enemies-is, w.count-is) (read_player text s.at s.px s.py s.enemies s.count s.invariant h w.in-80.is)
+      | in-69+then-count-lt-MAX_ENEMIES w ↦ rw (w.px-is, w.py-is, w.enemies-is, w.count-is)
+          (read_creature text s.at s.px s.py s.enemies s.count s.invariant h w.in-69.is (simp (lt-ltb _ _ w.if-count-lt-MAX_ENEMIES.true)))
+      | in-69+else-count-lt-MAX_ENEMIES w ↦ rw (w.px-is, w.py-is, w.enemies-is, w.count-is)
+          (read_creature text s.at s.px s.py s.enemies s.count s.invariant h w.in-69.is (simp (le-ltb _ _ w.if-count-lt-MAX_ENEMIES.false)))
+      | in_default w ↦ rw (w.px-is, w.py-is, w.enemies-is, w.count-is)
+          (read_tile text s.at s.px s.py s.enemies s.count s.invariant h (search rules) (search rules))
+    ]
 
-pub loop-i-preserved-else-count-lt-MAX_ENEMIES : goal.loop-i-preserved-else-count-lt-MAX_ENEMIES
-loop-i-preserved-else-count-lt-MAX_ENEMIES c =
-    let s = c.loop-i in
+pub returns : goal.returns
+returns c =
+    let s = c.loop-at in
     let text = c.args.text.now in
-    (omega arith, read_creature text s.i s.px s.py s.enemies s.count s.invariant.1 (omega arith) c.in-69.is (simp (le-ltb _ _ c.if-count-lt-MAX_ENEMIES.false)))
-
-pub loop-i-preserved : goal.loop-i-preserved
-loop-i-preserved c =
-    let s = c.loop-i in
-    let text = c.args.text.now in
-    (omega arith, read_tile text s.i s.px s.py s.enemies s.count s.invariant.1 (omega arith) c.in_default.in_default-own.rest.0.1 c.in_default.in_default-own.rest.1)
-
-pub returns-then-asked-eq0 : goal.returns-then-asked-eq0
-returns-then-asked-eq0 c =
-    let s = c.loop-i in
-    let text = c.args.text.now in
-    let e = read_done text s.i s.px s.py s.enemies s.count s.invariant.1 (omega arith) c.tiles_of-grid.ensures in
-    asked text _ c.coin_count.result _ e c.coin_count.ensures.0 (simp (eq-eqb _ _ c.if-asked-eq0.true))
-
-pub returns-else-asked-eq0 : goal.returns-else-asked-eq0
-returns-else-asked-eq0 c =
-    let s = c.loop-i in
-    let text = c.args.text.now in
-    let e = read_done text s.i s.px s.py s.enemies s.count s.invariant.1 (omega arith) c.tiles_of-grid.ensures in
-    asked text _ c.coin_count.result _ e c.coin_count.ensures.0 (simp (ne_eqb _ _ c.if-asked-eq0.false))
+    let e = read_done text s.at s.px s.py s.enemies s.count s.invariant (omega arith) c.tiles_of-grid.ensures in
+    asked text _ c.coin_count.result _ e c.coin_count.ensures.0 (one_least _ ∙ sym c.max-needed.ensures)

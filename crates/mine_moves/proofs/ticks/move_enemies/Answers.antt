@@ -19,6 +19,6 @@ tick_on-caught-requires c =
 pub returns : goal.returns
 returns c =
     let m = c.args.m in
-    ap (λ (l : List Enemy). dead_if c.tick_on-caught.result (standing m m.grid l m.count m.px m.py)) c.enemies_of-enemies.ensures
+    ap (λ (l : List Enemy). dead_if c.tick_on-caught.result (standing m m.grid l m.count m.px m.py)) c.enemies_of-m.ensures
     ∙ sym (c.tick_on-caught.ensures.does m)
     ∙ ap (λ (l : List Enemy). enemies_moved (standing m m.grid l m.count m.px m.py)) (whole_again m c.requires c.parts_of-parts.ensures)
