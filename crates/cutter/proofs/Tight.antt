@@ -1,10 +1,11 @@
 -- Each contract decides its outcome. Assumes nothing.
+use Rattle.refusal.specs.Refusal.{Checked}
+use Rattle.std.specs.Prelude.{Option}
 use mathlib.Core.List.{List}
 use Prim.Native.Nat.{ℕ}
 use lib.ListN.{take}
 use Rattle.contracts.specs.Decides.{Decides}
 use Rattle.contracts.proofs.Decides.{decided}
-use Rattle.refusal.specs.declared.Refusal.{Refusal}
 use Rattle.found.specs.declared.Found.{Found}
 use Rattle.pace.specs.declared.Pace.{Pace}
 use Rattle.cutter_pass.specs.declared.CutterPassed.{CutterPassed}
@@ -68,11 +69,11 @@ pass_marks_tight 𝓤 𝓛 mem run κs a g r r' s s' =
 -- the frame stands in the second place
 pub render_tight : {M : Type 1} → Decides M render.ended (λ 𝓤 𝓛. render.clauses 𝓛)
 render_tight 𝓤 𝓛 mem run κs a g r r' s s' =
-    decided 𝓤 (λ (z : Refusal × List ℕ). (z.0, (tt, (z.1, tt)))) (r, s.1.0) (r', s'.1.0) (picture_of a.0 a.1.0.now)
+    decided 𝓤 (λ (z : Checked × List ℕ). (z.0, (tt, (z.1, tt)))) (r, s.1.0) (r', s'.1.0) (picture_of a.0 a.1.0.now)
 
 pub who_tight : {M : Type 1} → Decides M who.ended (λ 𝓤 𝓛. who.clauses 𝓛)
-who_tight 𝓤 𝓛 mem run κs a g r r' s s' = decided 𝓤 (λ (z : Found). (z, s)) r r' (who_at a.0.now a.1.0 a.1.1.0)
+who_tight 𝓤 𝓛 mem run κs a g r r' s s' = decided 𝓤 (λ (z : Option Found). (z, s)) r r' (who_at a.0.now a.1.0 a.1.1.0)
 
 pub who_of_tight : {M : Type 1} → Decides M who_of.ended (λ 𝓤 𝓛. who_of.clauses 𝓛)
 who_of_tight 𝓤 𝓛 mem run κs a g r r' s s' =
-    decided 𝓤 (λ (z : Found). (z, s)) r r' (who_at (take a.1.0 a.0) a.1.1.0 a.1.1.1.0)
+    decided 𝓤 (λ (z : Option Found). (z, s)) r r' (who_at (take a.1.0 a.0) a.1.1.0 a.1.1.1.0)

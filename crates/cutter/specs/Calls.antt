@@ -1,7 +1,6 @@
 -- The promises of Block Cutter's calls: refused with the state as it came, or answered.
 use Rattle.std.specs.Prelude.{false, List, [], ℕ, leb, pos, replicate}
-use Rattle.refusal.specs.declared.Refusal.{Refusal}
-use Rattle.refusal.specs.Refusal.{NONE, COMMAND, DRAWS, unless, ◌then◌, refused_or}
+use Rattle.refusal.specs.Refusal.{Checked, NONE, COMMAND, DRAWS, unless, ◌then◌, refused_or}
 use Rattle.cutter_ground.specs.Cells.{CN, CB_BLACK}
 use Rattle.cutter_state.specs.declared.Cutter.{Cutter}
 use Rattle.cutter_state.specs.Change.{with_level, with_lives, state_of}
@@ -18,7 +17,7 @@ use Rattle.cutter_rules.specs.Cost.{step_made, swept_made, respawn_made}
 use Rattle.cutter_rules.specs.declared.Made.{Made}
 
 -- a refused call returns the refusal and the state it got
-abbrev pub refused : Cutter → Refusal → CutterAnswer
+abbrev pub refused : Cutter → Checked → CutterAnswer
 refused c n = record { refusal = n; game = c; searched = 0; walked = 0 }
 
 -- one that is not returns no number and the state after, with the cells that a search and a walk took
@@ -74,7 +73,7 @@ respawn_call c = refused_or (refusal_of c) (refused c) (made (respawn_made c))
 -- ---- ground report: black, claimed and line cells, and the share
 
 -- zeros where refused
-abbrev pub unreported : Refusal → Ground
+abbrev pub unreported : Checked → Ground
 unreported n = record { refusal = n; black = 0; claimed = 0; line = 0; share = 0 }
 
 abbrev pub reported : Cutter → Ground

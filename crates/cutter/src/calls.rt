@@ -1,6 +1,6 @@
 // The calls on a state: each checks it once, and refuses it or plays.
-ghost use Rattle.std.specs.Prelude.{◌≡◌, ◌≤◌};
-ghost use Rattle.cutter.specs.Calls.{zeros, round_call, level_call, direction_call, step_call, sweeps_call, enemies_call, respawn_call, report_call};
+ghost use Rattle.std.specs.Prelude.{◌≡◌, ◌≤◌, Err};
+ghost use Rattle.cutter.specs.Calls.{zeros, refused, answered, made, round_call, level_call, direction_call, step_call, sweeps_call, enemies_call, respawn_call, report_call};
 ghost use Rattle.cutter_ground.specs.Cells.{RING};
 ghost use Rattle.cutter_state.specs.State.{share_of};
 
@@ -10,28 +10,63 @@ use cutter_ground::{
     CB_FILLED, CB_TRAIL, CN, INNER, MAX_ENEMIES, Mover, RING, black_count, count_of,
 };
 use cutter_level::{creatures_of, draws_ok};
+use cutter_rules::Made;
 use cutter_state::{Cutter, MAX_LIVES};
-use refusal::Refusal;
+use refusal::{Checked, Refusal};
 
 // The state afterwards, and how many cells were taken by the search of a closing and by the walk to the border.
-#[repr(C)]
 #[derive(Clone, Copy)]
 pub struct CutterAnswer {
-    pub refusal: Refusal,
+    pub refusal: Checked,
     pub game: Cutter,
     pub searched: u16,
     pub walked: u16,
 }
 
 // How much of the ground is black, claimed and line, and the percentage of it that is no longer black.
-#[repr(C)]
 #[derive(Clone, Copy)]
 pub struct Ground {
-    pub refusal: Refusal,
+    pub refusal: Checked,
     pub black: u16,
     pub claimed: u16,
     pub line: u16,
     pub share: u16,
+}
+
+impl CutterAnswer {
+    // A refused call gives the state that it got.
+    fn refused(c: Cutter, no: Refusal) -> CutterAnswer
+        ensures { result ≡ refused c (Err no) }
+    {
+        CutterAnswer {
+            refusal: Err(no),
+            game: c,
+            searched: 0,
+            walked: 0,
+        }
+    }
+
+    fn made(m: Made) -> CutterAnswer
+        ensures { result ≡ made m }
+    {
+        CutterAnswer {
+            refusal: Ok(()),
+            game: m.game,
+            searched: m.searched,
+            walked: m.walked,
+        }
+    }
+
+    fn answered(game: Cutter) -> CutterAnswer
+        ensures { result ≡ answered game }
+    {
+        CutterAnswer {
+            refusal: Ok(()),
+            game,
+            searched: 0,
+            walked: 0,
+        }
+    }
 }
 
 // A round starts at this level.
@@ -63,6 +98,7 @@ fn no_state() -> Cutter
 }
 
 // A new round: level 1, 3 lives, 4 draws.
+#[tactic(auto, unfolding(crate::specs::Calls::round_call))]
 pub fn new_round(draws: &[u8]) -> CutterAnswer
     ensures { result ≡ round_call draws.now }
 {
@@ -70,167 +106,81 @@ pub fn new_round(draws: &[u8]) -> CutterAnswer
     if draws_ok(draws, creatures_of(FIRST_LEVEL)) {
         c.level = FIRST_LEVEL;
         c.lives = MAX_LIVES;
-        return CutterAnswer {
-            refusal: refusal::NONE,
-            game: cutter_level::new_level(c, draws),
-            searched: 0,
-            walked: 0,
-        };
+        return CutterAnswer::answered(cutter_level::new_level(c, draws));
     }
-    CutterAnswer {
-        refusal: refusal::DRAWS,
-        game: c,
-        searched: 0,
-        walked: 0,
-    }
+    CutterAnswer::refused(c, Refusal::Draws)
 }
 
 // A fresh level for the state's own level.
+#[tactic(auto, unfolding(crate::specs::Calls::level_call))]
 pub fn new_level(c: Cutter, draws: &[u8]) -> CutterAnswer
     ensures { result ≡ level_call c draws.now }
 {
-    let no = check(c);
-    if no.number != refusal::NONE.number {
-        return CutterAnswer {
-            refusal: no,
-            game: c,
-            searched: 0,
-            walked: 0,
-        };
+    if let Err(no) = check(c) {
+        return CutterAnswer::refused(c, no);
     }
     if draws_ok(draws, creatures_of(c.level)) {
-        return CutterAnswer {
-            refusal: refusal::NONE,
-            game: cutter_level::new_level(c, draws),
-            searched: 0,
-            walked: 0,
-        };
+        return CutterAnswer::answered(cutter_level::new_level(c, draws));
     }
-    CutterAnswer {
-        refusal: refusal::DRAWS,
-        game: c,
-        searched: 0,
-        walked: 0,
-    }
+    CutterAnswer::refused(c, Refusal::Draws)
 }
 
 // The direction: 0 up, 1 right, 2 down, 3 left.
+#[tactic(auto, unfolding(crate::specs::Calls::direction_call))]
 pub fn direction(c: Cutter, dir: u8) -> CutterAnswer
     ensures { result ≡ direction_call c dir }
 {
-    let no = check(c);
-    if no.number != refusal::NONE.number {
-        return CutterAnswer {
-            refusal: no,
-            game: c,
-            searched: 0,
-            walked: 0,
-        };
+    if let Err(no) = check(c) {
+        return CutterAnswer::refused(c, no);
     }
     if LEFT < dir {
-        return CutterAnswer {
-            refusal: refusal::COMMAND,
-            game: c,
-            searched: 0,
-            walked: 0,
-        };
+        return CutterAnswer::refused(c, Refusal::Command);
     }
-    CutterAnswer {
-        refusal: refusal::NONE,
-        game: cutter_moves::direction(c, dir),
-        searched: 0,
-        walked: 0,
-    }
+    CutterAnswer::answered(cutter_moves::direction(c, dir))
 }
 
 // One step in the direction.
+#[tactic(auto, unfolding(crate::specs::Calls::step_call))]
 pub fn step_player(c: Cutter) -> CutterAnswer
     ensures { result ≡ step_call c }
 {
-    let no = check(c);
-    if no.number != refusal::NONE.number {
-        return CutterAnswer {
-            refusal: no,
-            game: c,
-            searched: 0,
-            walked: 0,
-        };
+    if let Err(no) = check(c) {
+        return CutterAnswer::refused(c, no);
     }
-    let made = cutter_moves::step_player(c);
-    let game = made.game;
-    CutterAnswer {
-        refusal: refusal::NONE,
-        game: game,
-        searched: made.searched,
-        walked: made.walked,
-    }
+    CutterAnswer::made(cutter_moves::step_player(c))
 }
 
 // One step in the direction; a cut is closed by sweeps.
+#[tactic(auto, unfolding(crate::specs::Calls::sweeps_call))]
 pub fn step_by_sweeps(c: Cutter) -> CutterAnswer
     ensures { result ≡ sweeps_call c }
 {
-    let no = check(c);
-    if no.number != refusal::NONE.number {
-        return CutterAnswer {
-            refusal: no,
-            game: c,
-            searched: 0,
-            walked: 0,
-        };
+    if let Err(no) = check(c) {
+        return CutterAnswer::refused(c, no);
     }
-    let made = cutter_moves::step_by_sweeps(c);
-    let game = made.game;
-    CutterAnswer {
-        refusal: refusal::NONE,
-        game: game,
-        searched: made.searched,
-        walked: made.walked,
-    }
+    CutterAnswer::made(cutter_moves::step_by_sweeps(c))
 }
 
 // One creature tick.
+#[tactic(auto, unfolding(crate::specs::Calls::enemies_call))]
 pub fn step_enemies(c: Cutter) -> CutterAnswer
     ensures { result ≡ enemies_call c }
 {
-    let no = check(c);
-    if no.number != refusal::NONE.number {
-        return CutterAnswer {
-            refusal: no,
-            game: c,
-            searched: 0,
-            walked: 0,
-        };
+    if let Err(no) = check(c) {
+        return CutterAnswer::refused(c, no);
     }
-    CutterAnswer {
-        refusal: refusal::NONE,
-        game: cutter_moves::step_enemies(c),
-        searched: 0,
-        walked: 0,
-    }
+    CutterAnswer::answered(cutter_moves::step_enemies(c))
 }
 
 // The line is black again, and the player back at the start.
+#[tactic(auto, unfolding(crate::specs::Calls::respawn_call))]
 pub fn respawn(c: Cutter) -> CutterAnswer
     ensures { result ≡ respawn_call c }
 {
-    let no = check(c);
-    if no.number != refusal::NONE.number {
-        return CutterAnswer {
-            refusal: no,
-            game: c,
-            searched: 0,
-            walked: 0,
-        };
+    if let Err(no) = check(c) {
+        return CutterAnswer::refused(c, no);
     }
-    let made = cutter_moves::respawn(c);
-    let game = made.game;
-    CutterAnswer {
-        refusal: refusal::NONE,
-        game: game,
-        searched: made.searched,
-        walked: made.walked,
-    }
+    CutterAnswer::made(cutter_moves::respawn(c))
 }
 
 fn share_of(claimed: u16) -> u16
@@ -241,27 +191,25 @@ fn share_of(claimed: u16) -> u16
 }
 
 // The ground report.
+#[tactic(auto, unfolding(crate::specs::Calls::report_call))]
 pub fn ground_report(c: Cutter) -> Ground
     ensures { result ≡ report_call c }
 {
-    let no = check(c);
-    if no.number != refusal::NONE.number {
+    if let Err(no) = check(c) {
         return Ground {
-            refusal: no,
+            refusal: Err(no),
             black: 0,
             claimed: 0,
             line: 0,
             share: 0,
         };
     }
-    let black = black_count(&c.grid);
     let claimed = count_of(&c.grid, CB_FILLED);
-    let line = count_of(&c.grid, CB_TRAIL);
     Ground {
-        refusal: refusal::NONE,
-        black: black,
-        claimed: claimed,
-        line: line,
+        refusal: Ok(()),
+        black: black_count(&c.grid),
+        claimed,
+        line: count_of(&c.grid, CB_TRAIL),
         share: share_of(claimed),
     }
 }

@@ -6,19 +6,17 @@ use cutter_check::check;
 use cutter_render::cutter_render;
 use cutter_state::Cutter;
 use frame::FRAME_LEN;
-use refusal::Refusal;
+use refusal::{Checked, Refusal};
 
 // Draws the state into a lent frame; a refused call leaves every byte of it.
-pub fn render(c: Cutter, frame: &mut [u8]) -> Refusal
+#[tactic(auto, unfolding(crate::specs::Picture::picture_of))]
+pub fn render(c: Cutter, frame: &mut [u8]) -> Checked
     ensures { (result, frame.new) ≡ picture_of c frame.old }
 {
-    let no = check(c);
-    if no.number != refusal::NONE.number {
-        return no;
-    }
+    check(c)?;
     if frame.len() != FRAME_LEN {
-        return refusal::FRAME;
+        return Err(Refusal::Frame);
     }
     cutter_render(c, frame);
-    refusal::NONE
+    Ok(())
 }

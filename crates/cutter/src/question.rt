@@ -2,32 +2,19 @@
 ghost use Rattle.std.specs.Prelude.{◌≡◌, take};
 ghost use Rattle.cutter.specs.Question.{who_at};
 
-use cutter_ground::{MAX_ENEMIES, Mover, stands_at};
-use found::{Found, Tally, count_in, told};
+use cutter_ground::{MAX_ENEMIES, Mover};
+use found::Found;
 
-// The first of a lent list at (x, y) and how many are there, or nobody: one pass, which goes on counting from the first on.
-pub fn who(list: &[Mover], x: usize, y: usize) -> Found
+// The first of a lent list at (x, y) and how many are there, or nobody.
+pub fn who(list: &[Mover], x: usize, y: usize) -> Option<Found>
     ensures { result ≡ who_at list.now x y }
 {
-    let mut met = Tally {
-        first: 0,
-        number: 0,
-    };
-    let mut i: usize = 0;
-    while i < list.len() {
-        met = count_in(met, stands_at(list[i], x, y));
-        i += 1;
-    }
-    told(met)
+    found::who(list, x, y)
 }
 
 // The same of the first n of an array, of all where n is more.
-pub fn who_of(enemies: [Mover; MAX_ENEMIES], n: usize, x: usize, y: usize) -> Found
+pub fn who_of(enemies: [Mover; MAX_ENEMIES], n: usize, x: usize, y: usize) -> Option<Found>
     ensures { result ≡ who_at (take n enemies) x y }
 {
-    let mut k = n;
-    if MAX_ENEMIES < n {
-        k = MAX_ENEMIES;
-    }
-    who(&enemies[..k], x, y)
+    who(&enemies[..n.min(MAX_ENEMIES)], x, y)
 }

@@ -28,10 +28,7 @@ fn seek(grid: &[u8; CN], seen: &mut [u8; CN], queue: &mut [u16; CN], start: usiz
         let at = queue[head] as usize;
         head += 1;
         if cutter_ground::on_border(grid, at) {
-            return Walked {
-                at: at,
-                taken: head,
-            };
+            return Walked { at, taken: head };
         }
         tail = cutter_ground::around(grid, seen, queue, tail, at, CB_FILLED);
     }
@@ -42,6 +39,7 @@ fn seek(grid: &[u8; CN], seen: &mut [u8; CN], queue: &mut [u16; CN], start: usiz
 }
 
 // Where the player at start has to go to stand on the border: nowhere, if that is beside black already.
+#[tactic(auto, unfolding(crate::specs::CodeBorder::to_border))]
 pub fn move_to_border(grid: &[u8; CN], start: usize) -> Walked
     requires { Standing grid.now start }
     ensures { result ≡ to_border grid.now start }

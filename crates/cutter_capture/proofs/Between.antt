@@ -120,8 +120,8 @@ more_than_none (suc e) k h = let l : 0 < suc e = omega arith in rw (lt-ltb 0 (su
 -- no region has been found
 pub record None (limit : ℕ) (L : List ℕ) (es : List Mover) (l : Lead) (n s : ℕ) : Type 0 where
   pub zero : n ≡ 0
-  pub empty : l.from ≡ l.to
-  pub start : l.to ≡ 0
+  pub empty : l.part.from ≡ l.part.to
+  pub start : l.part.to ≡ 0
   pub nobody : l.crowd ≡ 0
   pub clear : (c : ℕ) → s ≤ get_or L c CN
   pub left : kept_of L es (rest limit L n s) ≡ kept limit L es
@@ -130,11 +130,11 @@ pub record None (limit : ℕ) (L : List ℕ) (es : List Mover) (l : Lead) (n s :
 pub record Best (limit : ℕ) (L : List ℕ) (es : List Mover) (q : List ℕ) (t : ℕ) (l : Lead) (n s : ℕ) : Type 0 where
   pub w : ℕ
   pub past : w < s
-  pub some : l.from < l.to
-  pub room : l.to ≤ t
-  pub theirs : (k : ℕ) → l.from ≤ k → k < l.to → get_or L (get_or q k 0) CN ≡ w
-  pub queued : (c : ℕ) → get_or L c CN ≡ w → Queued q l.from l.to c
-  pub size : l.to ≡ l.from + cells_in L w
+  pub some : l.part.from < l.part.to
+  pub room : l.part.to ≤ t
+  pub theirs : (k : ℕ) → l.part.from ≤ k → k < l.part.to → get_or L (get_or q k 0) CN ≡ w
+  pub queued : (c : ℕ) → get_or L c CN ≡ w → Queued q l.part.from l.part.to c
+  pub size : l.part.to ≡ l.part.from + cells_in L w
   pub crowd : l.crowd ≡ creatures_in L es w
   pub left : best L es w (rest limit L n s) ≡ kept limit L es
 
@@ -164,7 +164,7 @@ unfolding tally
 free_step L s = count_plus (λ x. not (ltb x s)) (λ x. not (ltb x (s + 1))) (λ x. eqb x s) (λ x. not_step x s) L
 
 module _ {g L : List ℕ} (R : Right g L) {limit : ℕ} {es : List Mover} {seen q : List ℕ} {l : Lead} {n t stood s : ℕ} (b : Between g L limit es seen q l n t stood s) where
-  pub lead_order : l.from ≤ l.to
+  pub lead_order : l.part.from ≤ l.part.to
   lead_order = ⊎_elim (λ x. omega (arith, x.empty)) (λ x. omega (arith, x.some)) b.lead
 
   module _ (inn : s < CN) where
@@ -302,7 +302,8 @@ module _ {g L : List ℕ} (R : Right g L) {limit : ℕ} {es : List Mover} {seen 
           size_is = omega (arith, found_size)
 
           -- the new region leads
-          now_best : best L es s (rest limit L (n + 1) (s + 1)) ≡ kept limit L es → Best limit L es q' t' (record { from = t; to = t'; crowd = stand - stood }) (n + 1) (s + 1)
+          now_best : best L es s (rest limit L (n + 1) (s + 1)) ≡ kept limit L es
+              → Best limit L es q' t' (record { part = record { from = t; to = t' }; crowd = stand - stood }) (n + 1) (s + 1)
           now_best z =
               record {
                 w = s;
@@ -316,28 +317,28 @@ module _ {g L : List ℕ} (R : Right g L) {limit : ℕ} {es : List Mover} {seen 
                 left = z;
               }
 
-          won : more (stand - stood) (t' - t) l.crowd (l.to - l.from) ≡ true → best L es s (rest limit L (n + 1) (s + 1)) ≡ kept limit L es
+          won : more (stand - stood) (t' - t) l.crowd (l.part.to - l.part.from) ≡ true → best L es s (rest limit L (n + 1) (s + 1)) ≡ kept limit L es
           won z =
               ⊎_elim (λ x. ap (kept_of L es) (sym next) ∙ x.left)
               (λ x. sym (best_won L es x.w s (rest limit L (n + 1) (s + 1)) (sym (compared x) ∙ z)) ∙ ap (best L es x.w) (sym next) ∙ x.left) b.lead
             where
-              compared : (x : Best limit L es q t l n s) → more (stand - stood) (t' - t) l.crowd (l.to - l.from) ≡ beats L es s x.w
-              compared x = let y : l.to - l.from ≡ cells_in L x.w = omega (arith, x.size) in rw (crowd_is, size_is, x.crowd, y)
+              compared : (x : Best limit L es q t l n s) → more (stand - stood) (t' - t) l.crowd (l.part.to - l.part.from) ≡ beats L es s x.w
+              compared x = let y : l.part.to - l.part.from ≡ cells_in L x.w = omega (arith, x.size) in rw (crowd_is, size_is, x.crowd, y)
 
-          lost : more (stand - stood) (t' - t) l.crowd (l.to - l.from) ≡ false → Best limit L es q' t' l (n + 1) (s + 1)
+          lost : more (stand - stood) (t' - t) l.crowd (l.part.to - l.part.from) ≡ false → Best limit L es q' t' l (n + 1) (s + 1)
           lost z = ⊎_elim first later b.lead
             where
               first : None limit L es l n s → Best limit L es q' t' l (n + 1) (s + 1)
               first x =
-                  let y : l.to - l.from ≡ 0 = omega (arith, x.empty) in
+                  let y : l.part.to - l.part.from ≡ 0 = omega (arith, x.empty) in
                   let p : 0 < t' - t = omega (arith, found_some) in
-                  let m : more (stand - stood) (t' - t) l.crowd (l.to - l.from) ≡ true = rw (x.nobody, y) (more_than_none (stand - stood) (t' - t) p) in
+                  let m : more (stand - stood) (t' - t) l.crowd (l.part.to - l.part.from) ≡ true = rw (x.nobody, y) (more_than_none (stand - stood) (t' - t) p) in
                   absurd (false≢true (sym z ∙ m))
 
               later : Best limit L es q t l n s → Best limit L es q' t' l (n + 1) (s + 1)
               later x =
-                  let y : l.to - l.from ≡ cells_in L x.w = omega (arith, x.size) in
-                  let m : more (stand - stood) (t' - t) l.crowd (l.to - l.from) ≡ beats L es s x.w = rw (crowd_is, size_is, x.crowd, y) in
+                  let y : l.part.to - l.part.from ≡ cells_in L x.w = omega (arith, x.size) in
+                  let m : more (stand - stood) (t' - t) l.crowd (l.part.to - l.part.from) ≡ beats L es s x.w = rw (crowd_is, size_is, x.crowd, y) in
                   record {
                     w = x.w;
                     past = omega (arith, x.past);
@@ -350,7 +351,7 @@ module _ {g L : List ℕ} (R : Right g L) {limit : ℕ} {es : List Mover} {seen 
                     left = sym (best-lost L es x.w s (rest limit L (n + 1) (s + 1)) (sym m ∙ z)) ∙ ap (best L es x.w) (sym next) ∙ x.left;
                   }
 
-          pub between_found : (l' : Lead) → l' ≡ leader l t t' (stand - stood) → Between g L limit es seen' q' l' (n + 1) t' stand (s + 1)
+          pub between_found : (l' : Lead) → l' ≡ leader l (record { from = t; to = t' }) (stand - stood) → Between g L limit es seen' q' l' (n + 1) t' stand (s + 1)
           between_found l' y =
               record {
                 cells = b.cells;
@@ -367,8 +368,8 @@ module _ {g L : List ℕ} (R : Right g L) {limit : ℕ} {es : List Mover} {seen 
                 counts = λ c. b.counts c ∙ ap (λ (r : List ℕ). ltb (get_or L c CN) s || any (eqb (get_or L c CN)) r) next
                     ∙ or_step (get_or L c CN) s (any (eqb (get_or L c CN)) (rest limit L (n + 1) (s + 1)));
                 lead = inr (subst (λ (x : Lead). Best limit L es q' t' x (n + 1) (s + 1)) (sym y)
-                    (cond_both (λ x. Best limit L es q' t' x (n + 1) (s + 1)) (more (stand - stood) (t' - t) l.crowd (l.to - l.from))
-                    (record { from = t; to = t'; crowd = stand - stood }) l (λ z. now_best (won z)) lost));
+                    (cond_both (λ x. Best limit L es q' t' x (n + 1) (s + 1)) (more (stand - stood) (t' - t) l.crowd (l.part.to - l.part.from))
+                    (record { part = record { from = t; to = t' }; crowd = stand - stood }) l (λ z. now_best (won z)) lost));
               }
 
   -- ---- the end
@@ -379,10 +380,11 @@ module _ {g L : List ℕ} (R : Right g L) {limit : ℕ} {es : List Mover} {seen 
 
     among : (x : Best limit L es q t l n s) → any (eqb x.w) (counted limit L) ≡ true
     among x =
-        let e = x.theirs l.from (omega arith) x.some in
-        subst (λ (v : ℕ). any (eqb v) (counted limit L) ≡ true) e (sym (is-counted (get_or q l.from 0)) ∙ lt-ltb (get_or L (get_or q l.from 0) CN) s (omega (arith, x.past)))
+        let e = x.theirs l.part.from (omega arith) x.some in
+        let c = get_or q l.part.from 0 in
+        subst (λ (v : ℕ). any (eqb v) (counted limit L) ≡ true) e (sym (is-counted c) ∙ lt-ltb (get_or L c CN) s (omega (arith, x.past)))
 
-    chosen : ChosenBy L limit es seen q l.from l.to t
+    chosen : ChosenBy L limit es seen q l.part.from l.part.to t
     chosen =
         record {
           len = b.len;
@@ -409,22 +411,22 @@ module _ {g L : List ℕ} (R : Right g L) {limit : ℕ} {es : List Mover} {seen 
                 among = subst (λ (v : ℕ). any (eqb v) (counted limit L) ≡ true) y (among x);
                 theirs = λ k h j. x.theirs k h j ∙ y;
                 queued = λ c h. x.queued c (h ∙ sym y);
-                size = x.size ∙ ap (λ (v : ℕ). l.from + cells_in L v) y;
+                size = x.size ∙ ap (λ (v : ℕ). l.part.from + cells_in L v) y;
               }))
               b.lead;
         }
 
   -- the limit is reached
-  pub chosen_full : n ≡ limit → ChosenBy L limit es seen q l.from l.to t
+  pub chosen_full : n ≡ limit → ChosenBy L limit es seen q l.part.from l.part.to t
   chosen_full e = chosen (rest_full limit L n s e) (λ z. absurd (omega (arith, b.some)))
 
   -- the whole grid is passed
-  pub chosen_end : CN ≤ s → ChosenBy L limit es seen q l.from l.to t
+  pub chosen_end : CN ≤ s → ChosenBy L limit es seen q l.part.from l.part.to t
   chosen_end h = let e : s ≡ CN = omega (arith, b.order) in chosen (rest_end limit L n s (R.len ∙ sym e)) (λ z. e)
 
 -- where nothing is marked yet
 pub between_start : {g L : List ℕ} (R : Right g L) {limit : ℕ} (es : List Mover) {seen q : List ℕ} → length g ≡ CN → seen ≡ replicate CN 0 → length q ≡ CN → 0 < limit
-    → Between g L limit es seen q (record { from = 0; to = 0; crowd = 0 }) 0 0 0 0
+    → Between g L limit es seen q (record { part = record { from = 0; to = 0 }; crowd = 0 }) 0 0 0 0
 between_start {g} {L} R {limit} es {seen} {q} lg z lq p =
     record {
       cells = lg;

@@ -2,19 +2,19 @@
 use mathlib.Core.Path.{◌≡◌, refl, sym, ap, subst, ◌∙◌}
 use mathlib.Core.Bool.{Bool}
 use mathlib.Core.List.{List, [], ◌∷◌, ◌++◌}
-use Prim.Native.Nat.{ℕ, suc, ◌+◌, ◌-◌, ◌<◌}
+use Prim.Native.Nat.{ℕ, suc, ◌+◌, ◌-◌, ◌≤◌, ◌<◌}
 use native.Mathlib.Omega.{arith}
-use borrow.Author.Tests.{eq-eqb, ne_eqb, ltb-true, lt-ltb}
+use borrow.Author.Tests.{eq-eqb, ne_eqb, ltb-true}
 use lib.Dec.{eqb}
 use lib.ListN.{length, get_or, set, take, replicate, length-append}
-use lib.Seq.{set-append_seam, append_snoc, length-take-le, get_or-take}
+use lib.Seq.{set-append_seam, append_snoc, length-take-le}
 use Rattle.laws.specs.Lists.{filter}
 use Rattle.laws.proofs.Counts.{count_le}
-use Rattle.laws.proofs.Lists.{all_at}
+use Rattle.laws.proofs.Lists.{all_at, get_or_default}
 use Rattle.laws.proofs.Filter.{filter-hit, filter-miss, length-filter}
 use Rattle.cutter_ground.specs.Cells.{CN}
 use Rattle.cutter_ground.specs.declared.Mover.{Mover}
-use Rattle.cutter_capture.specs.CodeSteps.{Closable, inside, mark_of}
+use Rattle.cutter_capture.specs.CodeSteps.{Placed, inside, mark_of}
 use Rattle.cutter_ground.specs.Movers.{MAX_ENEMIES, place_of, blank_slot, slots}
 
 -- one more creature takes the first free slot
@@ -36,7 +36,7 @@ pub record Keeping (N : List ℕ) (w : ℕ) (cs out : List Mover) (n i : ℕ) : 
 pub keeping_start : (N : List ℕ) (w : ℕ) (cs : List Mover) → Keeping N w cs (replicate MAX_ENEMIES blank_slot) 0 0
 keeping_start N w cs = record { outs = refl; size = refl }
 
-module _ {N : List ℕ} {w : ℕ} {cs out : List Mover} {n i : ℕ} (k : Keeping N w cs out n i) (d : Mover) (inn : i < length cs) (l : length cs ≡ MAX_ENEMIES) where
+module _ {N : List ℕ} {w : ℕ} {cs out : List Mover} {n i : ℕ} (k : Keeping N w cs out n i) (d : Mover) (inn : i < length cs) (l : length cs ≤ MAX_ENEMIES) where
   pub keeping_room : n < MAX_ENEMIES
   keeping_room =
       let f : Mover → Bool = λ m. eqb (mark_of N m) w in
@@ -44,7 +44,8 @@ module _ {N : List ℕ} {w : ℕ} {cs out : List Mover} {n i : ℕ} (k : Keeping
 
   pub keeping_hit : mark_of N (get_or cs i d) ≡ w → Keeping N w cs (set out n (get_or cs i d)) (n + 1) (i + 1)
   keeping_hit e =
-      let y : those N w (take (i + 1) cs) ≡ those N w (take i cs) ++ get_or cs i d ∷ [] = filter-hit (λ m. eqb (mark_of N m) w) cs i d inn (eq-eqb (mark_of N (get_or cs i d)) w e) in
+      let passes = eq-eqb (mark_of N (get_or cs i d)) w e in
+      let y : those N w (take (i + 1) cs) ≡ those N w (take i cs) ++ get_or cs i d ∷ [] = filter-hit (λ m. eqb (mark_of N m) w) cs i d inn passes in
       let room = keeping_room in
       let short : length (those N w (take i cs)) < MAX_ENEMIES = omega (arith, k.size) in
       record {
@@ -57,8 +58,7 @@ module _ {N : List ℕ} {w : ℕ} {cs out : List Mover} {n i : ℕ} (k : Keeping
       let y : those N w (take (i + 1) cs) ≡ those N w (take i cs) = filter-miss (λ m. eqb (mark_of N m) w) cs i d inn (ne_eqb (mark_of N (get_or cs i d)) w e) in
       record { outs = k.outs ∙ sym (ap slots y); size = k.size ∙ sym (ap length y) }
 
--- each of the first n creatures is on the grid
-pub on_grid_lem : {cs : List Mover} {n : ℕ} → Closable cs n → (i : ℕ) (d : Mover) → i < n → place_of d < CN → place_of (get_or cs i d) < CN
-on_grid_lem {cs} {n} c i d h k =
-    subst (λ (m : Mover). place_of m < CN) (get_or-take n cs i d h)
-    (ltb-true (place_of (get_or (take n cs) i d)) CN (all_at inside (take n cs) i d c.on_grid (lt-ltb (place_of d) CN k)))
+-- each creature of the list is on the grid
+pub placed_at : {es : List Mover} → Placed es → (k : ℕ) (d : Mover) → k < length es → place_of (get_or es k d) < CN
+placed_at {es} p k d h =
+    subst (λ (m : Mover). place_of m < CN) (get_or_default es k blank_slot d h) (ltb-true (place_of (get_or es k blank_slot)) CN (all_at inside es k blank_slot p.on_grid refl))

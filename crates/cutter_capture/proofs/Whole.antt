@@ -7,7 +7,7 @@ use Prim.Native.Nat.{ℕ, ◌+◌, ◌-◌, ◌≤◌, ◌<◌}
 use native.Mathlib.Omega.{arith}
 use borrow.Author.Tests.{eq-eqb, ne_eqb, lt-ltb, le-ltb}
 use lib.Dec.{eqb}
-use lib.ListN.{length, get_or, get_or-eq_default}
+use lib.ListN.{length, get_or, take, length-take, get_or-eq_default}
 use lib.Seq.{ext_get_or}
 use Rattle.laws.specs.Lists.{any, bit, count, filter, tally}
 use Rattle.laws.proofs.Choice.{same?, below?}
@@ -28,9 +28,9 @@ use Rattle.cutter_closing.specs.Cost.{searched_in, searched_of}
 use Rattle.cutter_closing.specs.declared.Cut.{Cut}
 use Rattle.cutter_capture.specs.declared.Herd.{Herd}
 use Rattle.cutter_capture.specs.declared.Closed.{Closed}
-use Rattle.cutter_capture.specs.CodeSteps.{KEPT, mark_of, keep_of, shut, Retained, Closes, ClosedBy, CutClosed}
+use Rattle.cutter_capture.specs.CodeSteps.{KEPT, mark_of, keep_of, shut, Retained, Divided, Closes, ClosedBy, CutClosed}
 use Rattle.cutter_capture.specs.CodeChoosing.{Nothing, Keeps, ChosenBy, Markable, Marked}
-use Rattle.cutter_ground.specs.Movers.{place_of}
+use Rattle.cutter_ground.specs.Movers.{MAX_ENEMIES, place_of}
 
 and-true : (b : Bool) → (b && true) ≡ b
 and-true true = refl
@@ -156,8 +156,10 @@ module _ {g L : List ℕ} (R : Right g L) {limit : ℕ} {es : List Mover} {seen 
 -- ---- the line is claimed first
 
 module _ (g : List ℕ) {h : List ℕ} (e : h ≡ claim_line g) where
-  pub line-closes : {enemies : List Mover} {count limit : ℕ} → Closes g enemies count limit → Closes h enemies count limit
-  line-closes c = record { cells = ap length e ∙ length-claim_line_lem g ∙ c.cells; closable = c.closable; some = c.some }
+  pub line-closes : {enemies : List Mover} {count limit : ℕ} → Closes g enemies count limit → Divided h (take count enemies) limit
+  line-closes {enemies} {count} c =
+      let few : length (take count enemies) ≤ MAX_ENEMIES = simp length-take (omega (arith, c.closable.few)) in
+      record { cells = ap length e ∙ length-claim_line_lem g ∙ c.cells; placed = record { few = few; on_grid = c.closable.on_grid }; some = c.some }
 
   pub closed-line : {limit : ℕ} {es : List Mover} {g' : List ℕ} {r : Closed} → ClosedBy (labels h).0 limit h es g' r → CutClosed limit g es g' r
   unfolding close_cut searched_of

@@ -7,19 +7,19 @@ use Rattle.cutter_joined.proofs.Labels.{labels}
 use Rattle.cutter_closing.specs.Counted.{counted, cells_in}
 use Rattle.cutter_regions.specs.CodeSeeking.{Queued}
 use Rattle.cutter_closing.specs.Closing.{kept}
-use Rattle.cutter_capture.specs.CodeSteps.{KEPT, Closable}
+use Rattle.cutter_capture.specs.CodeSteps.{KEPT, Placed}
 
 -- where L has a number for each cell, these are the right ones
 abbrev pub Numbered : (g L : List ℕ) → Type 0
 Numbered g L = length L ≡ CN → L ≡ (labels g).0
 
 -- cleared marks, a queue of full length, and a region may be counted
-pub record Choosable (g L seen q : List ℕ) (enemies : List Mover) (count limit : ℕ) : Type 0 where
+pub record Choosable (g L seen q : List ℕ) (es : List Mover) (limit : ℕ) : Type 0 where
   pub cells : length g ≡ CN
   pub numbered : Numbered g L
   pub clear : seen ≡ replicate CN 0
   pub long : length q ≡ CN
-  pub closable : Closable enemies count
+  pub placed : Placed es
   pub some : 0 < limit
 
 -- a region is kept, and the queue's part from a to b holds just its cells

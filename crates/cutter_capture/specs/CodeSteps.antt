@@ -1,7 +1,7 @@
 -- What the steps of a closing ask and do, on the search's marks. Read by their proofs; no promise cites it.
 use Rattle.std.specs.Prelude.{◌≡◌, Bool, true, cond, ◌&&◌, ◌||◌, List, ℕ, ◌-◌, ◌≤◌, ◌<◌, eqb, ltb, length, get_or, take}
 use Rattle.laws.specs.Lists.{all, count, filter}
-use Rattle.cutter_ground.specs.Cells.{CN, CB_FILLED}
+use Rattle.cutter_ground.specs.Cells.{CN, CB_FILLED, CB_TRAIL}
 use Rattle.cutter_ground.specs.CodeVisit.{SEEN}
 use Rattle.cutter_ground.specs.declared.Mover.{Mover}
 use Rattle.cutter_closing.specs.declared.Cut.{Cut}
@@ -10,7 +10,12 @@ use Rattle.cutter_closing.specs.Cost.{searched_in, searched_of}
 use Rattle.cutter_capture.specs.declared.Closed.{Closed}
 use Rattle.cutter_capture.specs.declared.Herd.{Herd}
 use Rattle.cutter_capture.specs.declared.Lead.{Lead}
+use Rattle.cutter_capture.specs.declared.Part.{Part}
 use Rattle.cutter_ground.specs.Movers.{MAX_ENEMIES, place_of, slots}
+
+-- a cell of the line becomes k
+abbrev pub recoded : ℕ → ℕ → ℕ
+recoded k x = cond (eqb x CB_TRAIL) k x
 
 -- what marks a cell of the region to keep
 abbrev pub KEPT : ℕ
@@ -24,6 +29,11 @@ pub record Closable (enemies : List Mover) (count : ℕ) : Type 0 where
   pub few : count ≤ MAX_ENEMIES
   pub on_grid : all inside (take count enemies) ≡ true
 
+-- the same of a list of creatures
+pub record Placed (es : List Mover) : Type 0 where
+  pub few : length es ≤ MAX_ENEMIES
+  pub on_grid : all inside es ≡ true
+
 -- the mark of a creature's cell, and how many have the mark k
 abbrev pub mark_of : List ℕ → Mover → ℕ
 mark_of N m = get_or N (place_of m) 0
@@ -36,12 +46,12 @@ abbrev pub more : ℕ → ℕ → ℕ → ℕ → Bool
 more e k e' k' = ltb e' e || eqb e e' && ltb k' k
 
 -- the best after one region more
-pub record Ordered (l : Lead) (from to : ℕ) : Type 0 where
-  pub old : l.from ≤ l.to
-  pub new : from ≤ to
+pub record Ordered (l : Lead) (p : Part) : Type 0 where
+  pub old : l.part.from ≤ l.part.to
+  pub new : p.from ≤ p.to
 
-abbrev pub leader : Lead → ℕ → ℕ → ℕ → Lead
-leader l from to e = cond (more e (to - from) l.crowd (l.to - l.from)) (record { from = from; to = to; crowd = e }) l
+abbrev pub leader : Lead → Part → ℕ → Lead
+leader l p e = cond (more e (p.to - p.from) l.crowd (l.part.to - l.part.from)) (record { part = p; crowd = e }) l
 
 -- the mark of those that remain
 abbrev pub keep_of : ℕ → ℕ → ℕ
@@ -60,6 +70,12 @@ pub record Retained (N : List ℕ) (w : ℕ) (es : List Mover) (r : Herd) : Type
 pub record Closes (g : List ℕ) (enemies : List Mover) (count limit : ℕ) : Type 0 where
   pub cells : length g ≡ CN
   pub closable : Closable enemies count
+  pub some : 0 < limit
+
+-- the same with the list of its creatures
+pub record Divided (g : List ℕ) (es : List Mover) (limit : ℕ) : Type 0 where
+  pub cells : length g ≡ CN
+  pub placed : Placed es
   pub some : 0 < limit
 
 -- the ground afterwards and those that remain, together

@@ -1,16 +1,16 @@
 // Closing a cut: the line becomes claimed, then every counted region but one is captured.
 #![tactic(auto)]
 
-ghost use Rattle.std.specs.Prelude.{◌≡◌, length, take};
-ghost use mathlib.Core.List.{zip_with};
+ghost use Rattle.std.specs.Prelude.{◌≡◌, ◌-◌, ◌≤◌, length, take};
+ghost use mathlib.Core.List.{map, zip_with};
 ghost use Rattle.cutter_ground.specs.Cells.{CN};
 ghost use Rattle.cutter_ground.specs.CodeVisit.{SEEN};
 ghost use Rattle.cutter_joined.proofs.Labels.{labels};
-ghost use Rattle.cutter_closing.specs.Closing.{claim_line, line_claimed};
-ghost use Rattle.cutter_capture.specs.CodeSteps.{KEPT, Closable, having, more, leader, Ordered, keep_of, shut, Retained, Closes, ClosedBy, CutClosed};
+ghost use Rattle.cutter_closing.specs.Closing.{claim_line};
+ghost use Rattle.cutter_capture.specs.CodeSteps.{recoded, KEPT, Placed, having, leader, Ordered, keep_of, shut, Retained, Divided, Closes, ClosedBy, CutClosed};
 ghost use Rattle.cutter_capture.specs.CodeChoosing.{Numbered, Choosable, Chosen, Markable, Marked};
 
-use cutter_ground::{CB_FILLED, CB_TRAIL, CN, MAX_ENEMIES, Mover, SEEN};
+use cutter_ground::{BLANK, CB_BLACK, CB_FILLED, CB_TRAIL, CN, MAX_ENEMIES, Mover, SEEN};
 
 // Most regions one cut counts; extra ones stay black.
 pub const MAX_COMP: usize = 48;
@@ -18,19 +18,24 @@ pub const MAX_COMP: usize = 48;
 // What marks a cell of the region to keep.
 const KEPT: u8 = 2;
 
+// A part of the queue.
+#[derive(Clone, Copy)]
+struct Part {
+    from: usize,
+    to: usize,
+}
+
 // The best region so far: its part of the queue, and its creatures.
 #[derive(Clone, Copy)]
 struct Lead {
-    from: usize,
-    to: usize,
+    part: Part,
     crowd: u16,
 }
 
 // The region to keep, as a part of the queue, and how many cells were taken from the queue.
 #[derive(Clone, Copy)]
 struct Choice {
-    from: usize,
-    to: usize,
+    part: Part,
     taken: usize,
 }
 
@@ -49,10 +54,14 @@ pub struct Closed {
     pub searched: u16,
 }
 
-fn off_line(cell: u8) -> u8
-    ensures { result ≡ line_claimed cell }
+// Each cell of the line becomes `to`.
+pub fn recode_line(grid: &mut [u8; CN], to: u8)
+    requires { length grid.old ≡ CN }
+    ensures { grid.new ≡ map (recoded to) grid.old }
 {
-    if cell == CB_TRAIL { CB_FILLED } else { cell }
+    for cell in grid.iter_mut() {
+        *cell = if *cell == CB_TRAIL { to } else { *cell };
+    }
 }
 
 // The line becomes claimed.
@@ -60,50 +69,48 @@ pub fn claim_line(grid: &mut [u8; CN])
     requires { length grid.old ≡ CN }
     ensures { grid.new ≡ claim_line grid.old }
 {
-    let mut i: usize = 0;
-    while i < CN {
-        grid[i] = off_line(grid[i]);
-        i += 1;
-    }
+    recode_line(grid, CB_FILLED);
 }
 
 // How many creatures stand on marked cells.
-fn standing(seen: &[u8; CN], enemies: [Mover; MAX_ENEMIES], count: usize) -> u16
-    requires { (length seen.now ≡ CN) × Closable enemies count }
-    ensures { result ≡ having seen.now (take count enemies) SEEN }
+fn standing(seen: &[u8; CN], enemies: &[Mover]) -> u16
+    requires { (length seen.now ≡ CN) × Placed enemies.now }
+    ensures { result ≡ having seen.now enemies.now SEEN }
 {
-    let mut n: u16 = 0;
-    let mut i: usize = 0;
-    while i < count {
-        let e = enemies[i];
-        let at = cutter_ground::cell_of(e);
-        if seen[at] == SEEN {
-            n += 1;
+    enemies
+        .iter()
+        .filter(|e| seen[cutter_ground::cell_of(**e)] == SEEN)
+        .count() as u16
+}
+
+impl Part {
+    fn len(self) -> usize
+        requires { self.from ≤ self.to }
+        ensures { result ≡ self.to - self.from }
+    {
+        self.to - self.from
+    }
+
+    // The mark of the cells whose creatures remain: where there is no region, it is none.
+    fn mark(self) -> u8
+        ensures { result ≡ keep_of self.from self.to }
+    {
+        if self.from < self.to { KEPT } else { 0 }
+    }
+}
+
+impl Lead {
+    // The better of this and one region more: the other where it has more creatures, or as many and more cells.
+    fn or(self, part: Part, crowd: u16) -> Lead
+        requires { Ordered self part }
+        ensures { result ≡ leader self part crowd }
+    {
+        if (self.crowd, self.part.len()) < (crowd, part.len()) {
+            Lead { part, crowd }
+        } else {
+            self
         }
-        i += 1;
     }
-    n
-}
-
-fn beats(e: u16, k: usize, most: u16, largest: usize) -> bool
-    ensures { result ≡ more e k most largest }
-{
-    (most < e) | ((e == most) & (largest < k))
-}
-
-// The region at from .. to, where it has more creatures than the best so far, or as many and more cells.
-fn better(lead: Lead, from: usize, to: usize, crowd: u16) -> Lead
-    requires { Ordered lead from to }
-    ensures { result ≡ leader lead from to crowd }
-{
-    if beats(crowd, to - from, lead.crowd, lead.to - lead.from) {
-        return Lead {
-            from: from,
-            to: to,
-            crowd: crowd,
-        };
-    }
-    lead
 }
 
 // Finds the regions in the order of their earliest cells, at most limit of them, and chooses the one to keep: most creatures, then most cells,
@@ -113,73 +120,58 @@ fn choose(
     nums: &[u16],
     seen: &mut [u8; CN],
     queue: &mut [u16; CN],
-    enemies: [Mover; MAX_ENEMIES],
-    count: usize,
+    enemies: &[Mover],
     limit: u16,
 ) -> Choice
-    requires { Choosable grid.now nums.now seen.old queue.old enemies count limit }
-    ensures { Chosen limit grid.now (take count enemies) seen.new queue.new result.from result.to result.taken }
+    requires { Choosable grid.now nums.now seen.old queue.old enemies.now limit }
+    ensures { Chosen limit grid.now enemies.now seen.new queue.new result.part.from result.part.to result.taken }
 {
     let mut lead = Lead {
-        from: 0,
-        to: 0,
+        part: Part { from: 0, to: 0 },
         crowd: 0,
     };
     let mut done: u16 = 0;
     let mut tail: usize = 0;
     let mut stood: u16 = 0;
-    let mut start: usize = 0;
-    while start < CN {
-        if grid[start] == cutter_ground::CB_BLACK {
-            if seen[start] == 0 {
-                if done == limit {
-                    return Choice {
-                        from: lead.from,
-                        to: lead.to,
-                        taken: tail,
-                    };
-                }
-                let end = cutter_regions::find(grid, nums, seen, queue, tail, start);
-                let stand = standing(seen, enemies, count);
-                lead = better(lead, tail, end, stand - stood);
-                tail = end;
-                stood = stand;
-                done += 1;
+    for start in 0..CN {
+        if grid[start] == CB_BLACK && seen[start] == 0 {
+            if done == limit {
+                break;
             }
+            let end = cutter_regions::find(grid, nums, seen, queue, tail, start);
+            let stand = standing(seen, enemies);
+            lead = lead.or(
+                Part {
+                    from: tail,
+                    to: end,
+                },
+                stand - stood,
+            );
+            tail = end;
+            stood = stand;
+            done += 1;
         }
-        start += 1;
     }
     Choice {
-        from: lead.from,
-        to: lead.to,
+        part: lead.part,
         taken: tail,
     }
 }
 
 // Marks the cells of the region to keep.
-fn mark(seen: &mut [u8; CN], queue: &[u16; CN], from: usize, to: usize)
-    requires { Markable seen.old queue.now from to }
-    ensures { Marked seen.old queue.now from to seen.new }
+fn mark(seen: &mut [u8; CN], queue: &[u16; CN], part: Part)
+    requires { Markable seen.old queue.now part.from part.to }
+    ensures { Marked seen.old queue.now part.from part.to seen.new }
 {
-    let mut i: usize = from;
-    while i < to {
-        let at = queue[i] as usize;
-        seen[at] = KEPT;
-        i += 1;
+    for at in &queue[part.from..part.to] {
+        seen[*at as usize] = KEPT;
     }
 }
 
-// The mark of the cells whose creatures remain: where there is no region, it is none.
-fn keep_of(from: usize, to: usize) -> u8
-    ensures { result ≡ keep_of from to }
+fn captured(cell: u8, mark: u8) -> u8
+    ensures { result ≡ shut cell mark }
 {
-    if from < to { KEPT } else { 0 }
-}
-
-fn captured(cell: u8, seen: u8) -> u8
-    ensures { result ≡ shut cell seen }
-{
-    if seen == SEEN { CB_FILLED } else { cell }
+    if mark == SEEN { CB_FILLED } else { cell }
 }
 
 // Claims every cell of a region that is not kept.
@@ -187,64 +179,44 @@ fn claim_rest(grid: &mut [u8; CN], seen: &[u8; CN])
     requires { (length grid.old ≡ CN) × (length seen.now ≡ CN) }
     ensures { grid.new ≡ zip_with shut grid.old seen.now }
 {
-    let mut i: usize = 0;
-    while i < CN {
-        grid[i] = captured(grid[i], seen[i]);
-        i += 1;
+    for (at, mark) in seen.iter().enumerate() {
+        grid[at] = captured(grid[at], *mark);
     }
 }
 
 // The creatures whose cell has the mark keep, in order; zeros behind them.
-fn retain(seen: &[u8; CN], enemies: [Mover; MAX_ENEMIES], count: usize, keep: u8) -> Herd
-    requires { (length seen.now ≡ CN) × Closable enemies count }
-    ensures { Retained seen.now keep (take count enemies) result }
+fn retain(seen: &[u8; CN], enemies: &[Mover], keep: u8) -> Herd
+    requires { (length seen.now ≡ CN) × Placed enemies.now }
+    ensures { Retained seen.now keep enemies.now result }
 {
-    let nobody = Mover {
-        x: 0,
-        y: 0,
-        vx: 0,
-        vy: 0,
-    };
-    let mut out = [nobody; MAX_ENEMIES];
-    let mut n: usize = 0;
-    let mut i: usize = 0;
-    while i < count {
-        let e = enemies[i];
-        let at = cutter_ground::cell_of(e);
-        if seen[at] == keep {
-            out[n] = e;
-            n += 1;
+    let mut kept = [BLANK; MAX_ENEMIES];
+    let mut count: usize = 0;
+    for e in enemies {
+        if seen[cutter_ground::cell_of(*e)] == keep {
+            kept[count] = *e;
+            count += 1;
         }
-        i += 1;
     }
     Herd {
-        enemies: out,
-        count: n,
+        enemies: kept,
+        count,
     }
 }
 
 // Closes the regions of a ground without a line, found by their numbers where nums has any.
-fn close_regions(
-    grid: &mut [u8; CN],
-    nums: &[u16],
-    enemies: [Mover; MAX_ENEMIES],
-    count: usize,
-    limit: u16,
-) -> Closed
-    requires { Closes grid.old enemies count limit × Numbered grid.old nums.now }
-    ensures { ClosedBy (labels grid.old).0 limit grid.old (take count enemies) grid.new result }
+fn close_regions(grid: &mut [u8; CN], nums: &[u16], enemies: &[Mover], limit: u16) -> Closed
+    requires { Divided grid.old enemies.now limit × Numbered grid.old nums.now }
+    ensures { ClosedBy (labels grid.old).0 limit grid.old enemies.now grid.new result }
 {
     let mut seen = [0u8; CN];
     let mut queue = [0u16; CN];
-    let best = choose(grid, nums, &mut seen, &mut queue, enemies, count, limit);
-    mark(&mut seen, &queue, best.from, best.to);
+    let best = choose(grid, nums, &mut seen, &mut queue, enemies, limit);
+    mark(&mut seen, &queue, best.part);
     claim_rest(grid, &seen);
-    let keep = keep_of(best.from, best.to);
-    let herd = retain(&seen, enemies, count, keep);
-    let left = herd.enemies;
+    let Herd { enemies, count } = retain(&seen, enemies, best.part.mark());
     Closed {
-        enemies: left,
-        count: herd.count,
+        enemies,
+        count,
         searched: best.taken as u16,
     }
 }
@@ -260,7 +232,7 @@ pub fn close_cut(
     ensures { CutClosed limit grid.old (take count enemies) grid.new result }
 {
     claim_line(grid);
-    close_regions(grid, &[], enemies, count, limit)
+    close_regions(grid, &[], &enemies[..count], limit)
 }
 
 // The same by sweeps.
@@ -276,5 +248,5 @@ pub fn close_by_sweeps(
     claim_line(grid);
     let mut nums = [0u16; CN];
     cutter_sweeps::settle(grid, &mut nums);
-    close_regions(grid, &nums, enemies, count, limit)
+    close_regions(grid, &nums, &enemies[..count], limit)
 }

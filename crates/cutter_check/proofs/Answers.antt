@@ -5,8 +5,7 @@ use lib.Dec.{leb}
 use lib.ListN.{length}
 use borrow.Author.Tests.{eq-eqb, not-true, not-false}
 use Rattle.laws.specs.Lists.{all}
-use Rattle.refusal.specs.declared.Refusal.{Refusal}
-use Rattle.refusal.specs.Refusal.{NONE, CELLS, PLAYER, NUMBERS}
+use Rattle.refusal.specs.Refusal.{Checked, NONE, CELLS, PLAYER, NUMBERS}
 use Rattle.refusal.specs.Faults.{fault_in}
 use Rattle.refusal.proofs.Checks.{at_cells, at_player, at_creatures, at_numbers, at_end}
 use Rattle.cutter_ground.specs.Movers.{MAX_ENEMIES}
@@ -38,7 +37,7 @@ module _ (c : Cutter) (full : length c.enemies ≡ MAX_ENEMIES) where
         two : player_ok c ≡ true
         two = sym player ∙ not-false b b-passed
 
-        pub no_creatures : not d ≡ true → {r : Refusal} → r ≡ fault_in MAX_ENEMIES (creature_fault c.grid) is_blank c.enemies c.count → r ≡ refusal_of c
+        pub no_creatures : not d ≡ true → {r : Checked} → r ≡ fault_in MAX_ENEMIES (creature_fault c.grid) is_blank c.enemies c.count → r ≡ refusal_of c
         unfolding refusal_of creatures_fault
         no_creatures t e =
             e

@@ -2,12 +2,13 @@
 use mathlib.Core.Bool.{Bool, true, false, cond, ◌&&◌, ◌||◌, and-true, and_assoc, or-false, or_assoc}
 use mathlib.Core.List.{List, [], ◌∷◌}
 use mathlib.Core.Logic.{⊎_elim}
-use mathlib.Core.Path.{◌≡◌, refl, sym, ◌∙◌, ap, subst}
-use Prim.Native.Nat.{ℕ, ◌+◌, ◌≤◌, ◌<◌}
+use mathlib.Core.Path.{◌≡◌, refl, sym, ◌∙◌, ap}
+use Prim.Native.Nat.{ℕ, ◌+◌, ◌≤◌, max}
 use native.Mathlib.Omega.{arith}
+use native.Mathlib.Nat.{max-eq_left, max-eq_right}
 use lib.Dec.{ltb}
 use lib.ListN.{drop}
-use borrow.Author.Tests.{ltb-true, ltb-false, leb-true, le-leb, eqb-false, ne_eqb, lt-ltb, le-ltb}
+use borrow.Author.Tests.{ltb-true, ltb-false, leb-true, le-leb, eqb-false, ne_eqb}
 use Rattle.laws.specs.Lists.{all, any}
 use Rattle.laws.proofs.Choice.{and_left, bool_cases, larger_leb}
 use Rattle.cutter_ground.specs.Cells.{CB_TRAIL}
@@ -15,16 +16,16 @@ use Rattle.cutter_state.specs.WellFormed.{is_code, is_trail}
 use Rattle.cutter_check.specs.CodePasses.{largest_of}
 
 -- A loop that goes through the codes: the largest of m and those from i on is R.
-turn : (b : Bool) (m k : ℕ) (g : List ℕ) {R : ℕ} → ltb m k ≡ b → largest_of m (k ∷ g) ≡ R → largest_of (cond b k m) g ≡ R
+larger : (m k : ℕ) → max m k ≡ cond (ltb m k) k m
+larger m k = go (ltb m k) refl
+  where
+    go : (b : Bool) → ltb m k ≡ b → max m k ≡ cond b k m
+    go true e = max-eq_right (omega (arith, ltb-true m k e))
+    go false e = max-eq_left (ltb-false m k e)
+
+pub largest_more : (l : List ℕ) (i m : ℕ) {R k : ℕ} → drop i l ≡ k ∷ drop (i + 1) l → largest_of m (drop i l) ≡ R → largest_of (max m k) (drop (i + 1) l) ≡ R
 unfolding largest_of
-turn b m k g {R} q e = subst (λ (d : Bool). largest_of (cond d k m) g ≡ R) q e
-
-module _ (l : List ℕ) (i m : ℕ) {R k : ℕ} (h : drop i l ≡ k ∷ drop (i + 1) l) (e : largest_of m (drop i l) ≡ R) where
-  pub largest-more : m < k → largest_of k (drop (i + 1) l) ≡ R
-  largest-more t = turn true m k (drop (i + 1) l) (lt-ltb m k t) (ap (largest_of m) (sym h) ∙ e)
-
-  pub largest-same : k ≤ m → largest_of m (drop (i + 1) l) ≡ R
-  largest-same t = turn false m k (drop (i + 1) l) (le-ltb m k t) (ap (largest_of m) (sym h) ∙ e)
+largest_more l i m {R} {k} h e = ap (λ n. largest_of n (drop (i + 1) l)) (larger m k) ∙ (rw h at e)
 
 pub largest_end : (l : List ℕ) (i m : ℕ) {R : ℕ} → drop i l ≡ [] → largest_of m (drop i l) ≡ R → m ≡ R
 unfolding largest_of

@@ -8,13 +8,14 @@ ghost use Rattle.laws.specs.Lists.{all};
 ghost use Rattle.cutter_ground.specs.Cells.{CN};
 ghost use Rattle.cutter_state.specs.State.{holds_at};
 ghost use Rattle.cutter_state.specs.WellFormed.{rows_filled, columns_filled, cells_ok, footing, direction_ok, is_unit, mover_ok, is_blank, numbers_ok, refusal_of};
-ghost use Rattle.cutter_check.specs.CodePasses.{largest_of, Counted};
+ghost use Rattle.cutter_check.specs.CodePasses.{largest_of};
 ghost use Rattle.cutter_ground.specs.Movers.{MAX_ENEMIES};
 
 use cause::first_fault;
-use cutter_ground::{CB_BLACK, CB_FILLED, CB_TRAIL, CH, CN, CW, MAX_ENEMIES, Mover};
+use cutter_ground::{BLANK, CB_BLACK, CB_FILLED, CB_TRAIL, CH, CN, CW, MAX_ENEMIES, Mover};
 use cutter_state::{Cutter, MAX_LEVEL, MAX_LIVES};
-use refusal::{CELLS, NONE, NUMBERS, PLAYER, Refusal};
+use refusal::{Checked, Refusal};
+use slots::all_blank;
 
 // The largest code of the grid tells both whether all are codes and whether one is line.
 fn largest(grid: &[u8; CN]) -> u8
@@ -22,12 +23,8 @@ fn largest(grid: &[u8; CN]) -> u8
     ensures { result ≡ largest_of 0 grid.now }
 {
     let mut most: u8 = 0;
-    let mut i: usize = 0;
-    while i < CN {
-        if most < grid[i] {
-            most = grid[i];
-        }
-        i += 1;
+    for code in grid {
+        most = most.max(*code);
     }
     most
 }
@@ -37,10 +34,8 @@ fn rows_filled(grid: &[u8; CN]) -> bool
     ensures { result ≡ rows_filled grid.now }
 {
     let mut ok = true;
-    let mut x: usize = 0;
-    while x < CW {
+    for x in 0..CW {
         ok = (grid[x] == CB_FILLED) & (grid[(CH - 1) * CW + x] == CB_FILLED) & ok;
-        x += 1;
     }
     ok
 }
@@ -50,10 +45,8 @@ fn columns_filled(grid: &[u8; CN]) -> bool
     ensures { result ≡ columns_filled grid.now }
 {
     let mut ok = true;
-    let mut y: usize = 0;
-    while y < CH {
+    for y in 0..CH {
         ok = (grid[y * CW] == CB_FILLED) & (grid[y * CW + (CW - 1)] == CB_FILLED) & ok;
-        y += 1;
     }
     ok
 }
@@ -128,41 +121,11 @@ fn mover_ok(grid: &[u8; CN], e: Mover) -> bool
     holds(grid, CB_BLACK, x, y) & velocity_ok(e)
 }
 
-fn movers_ok(grid: &[u8; CN], enemies: [Mover; MAX_ENEMIES], count: usize) -> bool
-    requires { Counted grid.now count }
-    ensures { result ≡ all (mover_ok grid.now) (take count enemies) }
+fn movers_ok(grid: &[u8; CN], movers: &[Mover]) -> bool
+    requires { length grid.now ≡ CN }
+    ensures { result ≡ all (mover_ok grid.now) movers.now }
 {
-    let mut i: usize = 0;
-    while i < count {
-        let e = enemies[i];
-        if !mover_ok(grid, e) {
-            return false;
-        }
-        i += 1;
-    }
-    true
-}
-
-fn blank_slot(e: Mover) -> bool
-    ensures { result ≡ is_blank e }
-{
-    (e.x == 0) & (e.y == 0) & (e.vx == 0) & (e.vy == 0)
-}
-
-// The slots past the count hold zeros.
-fn rest_blank(enemies: [Mover; MAX_ENEMIES], count: usize) -> bool
-    requires { count ≤ MAX_ENEMIES }
-    ensures { result ≡ all is_blank (drop count enemies) }
-{
-    let mut i = count;
-    while i < MAX_ENEMIES {
-        let e = enemies[i];
-        if !blank_slot(e) {
-            return false;
-        }
-        i += 1;
-    }
-    true
+    movers.iter().all(|e| mover_ok(grid, *e))
 }
 
 fn creatures_ok(grid: &[u8; CN], enemies: [Mover; MAX_ENEMIES], count: usize) -> bool
@@ -172,7 +135,7 @@ fn creatures_ok(grid: &[u8; CN], enemies: [Mover; MAX_ENEMIES], count: usize) ->
     if MAX_ENEMIES < count {
         return false;
     }
-    movers_ok(grid, enemies, count) & rest_blank(enemies, count)
+    movers_ok(grid, &enemies[..count]) & all_blank(&enemies[count..], BLANK)
 }
 
 fn numbers_ok(c: Cutter) -> bool
@@ -181,24 +144,24 @@ fn numbers_ok(c: Cutter) -> bool
     (c.lives <= MAX_LIVES) & (1 <= c.level) & (c.level <= MAX_LEVEL)
 }
 
-// The refusal that a state gets, NONE where it is well formed.
-pub fn check(c: Cutter) -> Refusal
+// The refusal that a state gets, if any.
+pub fn check(c: Cutter) -> Checked
     ensures { result ≡ refusal_of c }
 {
     // One copy of the cells, lent to each part of the check.
     let grid = c.grid;
     let enemies = c.enemies;
     if !cells_ok(&grid, c.trailing) {
-        return CELLS;
+        return Err(Refusal::Cells);
     }
     if !player_ok(&grid, c.trailing, c.px, c.py, c.dx, c.dy) {
-        return PLAYER;
+        return Err(Refusal::Player);
     }
     if !creatures_ok(&grid, enemies, c.count) {
         return first_fault(&grid, enemies, c.count);
     }
     if !numbers_ok(c) {
-        return NUMBERS;
+        return Err(Refusal::Numbers);
     }
-    NONE
+    Ok(())
 }

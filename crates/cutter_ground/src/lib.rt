@@ -7,6 +7,8 @@ ghost use Rattle.cutter_ground.specs.Cells.{CN, cell_at, left_of, right_of, up_o
 ghost use Rattle.cutter_ground.specs.CodeVisit.{Room, Visited, Around};
 ghost use Rattle.cutter_ground.specs.Movers.{place_of, stands_at};
 
+use found::Stands;
+
 pub const CW: usize = 64;
 
 pub const CH: usize = 32;
@@ -31,13 +33,21 @@ pub const SEEN: u8 = 1;
 pub const MAX_ENEMIES: usize = 16;
 
 #[repr(C)]
-#[derive(Clone, Copy)]
+#[derive(Clone, Copy, PartialEq, Eq, Debug)]
 pub struct Mover {
     pub x: u8,
     pub y: u8,
     pub vx: i8,
     pub vy: i8,
 }
+
+// What a slot without a creature holds.
+pub const BLANK: Mover = Mover {
+    x: 0,
+    y: 0,
+    vx: 0,
+    vy: 0,
+};
 
 // The cell of a creature.
 pub fn cell_of(e: Mover) -> usize
@@ -57,13 +67,18 @@ fn both_of(x: u8, y: u8) -> u32
 pub fn stands_at(e: Mover, x: usize, y: usize) -> bool
     ensures { result ≡ stands_at x y e }
 {
-    if 255 < x {
-        return false;
-    }
-    if 255 < y {
+    if 255 < x || 255 < y {
         return false;
     }
     both_of(e.x, e.y) == both_of(x as u8, y as u8)
+}
+
+impl Stands for Mover {
+    ghost stands = { stands_at };
+
+    fn stands_at(&self, x: usize, y: usize) -> bool {
+        stands_at(*self, x, y)
+    }
 }
 
 // What a cell holds; off the grid reads as claimed.
@@ -115,28 +130,29 @@ pub fn on_border(grid: &[u8; CN], at: usize) -> bool
 {
     let up = up_of(at);
     let down = down_of(at);
-    black_at(grid, left_of(at))
-        | black_at(grid, right_of(at))
-        | black_at(grid, up)
-        | black_at(grid, down)
-        | black_at(grid, left_of(up))
-        | black_at(grid, right_of(up))
-        | black_at(grid, left_of(down))
-        | black_at(grid, right_of(down))
+    let neighbours = [
+        left_of(at),
+        right_of(at),
+        up,
+        down,
+        left_of(up),
+        right_of(up),
+        left_of(down),
+        right_of(down),
+    ];
+    neighbours.iter().any(|c| black_at(grid, *c))
 }
 
-// How many cells hold a code.
+// How many cells hold a code. Counted in 16 bits: a chain's `count` in 64 takes ten times as long.
 pub fn count_of(grid: &[u8; CN], kind: u8) -> u16
     requires { length grid.now ≡ CN }
     ensures { result ≡ tally kind grid.now }
 {
     let mut n: u16 = 0;
-    let mut i: usize = 0;
-    while i < CN {
-        if grid[i] == kind {
+    for code in grid {
+        if *code == kind {
             n += 1;
         }
-        i += 1;
     }
     n
 }
@@ -160,14 +176,10 @@ fn visit(
     requires { Room grid.now seen.old queue.old tail kind }
     ensures { Visited grid.now seen.old queue.old tail at kind seen.new queue.new result }
 {
-    if at < CN {
-        if grid[at] == kind {
-            if seen[at] == 0 {
-                seen[at] = SEEN;
-                queue[tail] = at as u16;
-                return tail + 1;
-            }
-        }
+    if at < CN && grid[at] == kind && seen[at] == 0 {
+        seen[at] = SEEN;
+        queue[tail] = at as u16;
+        return tail + 1;
     }
     tail
 }
@@ -184,12 +196,8 @@ pub fn around(
     requires { Room grid.now seen.old queue.old tail kind }
     ensures { Around grid.now seen.old queue.old tail at kind seen.new queue.new result }
 {
-    let left = left_of(at);
-    let right = right_of(at);
-    let up = up_of(at);
-    let down = down_of(at);
-    let t1 = visit(grid, seen, queue, tail, left, kind);
-    let t2 = visit(grid, seen, queue, t1, right, kind);
-    let t3 = visit(grid, seen, queue, t2, up, kind);
-    visit(grid, seen, queue, t3, down, kind)
+    let tail = visit(grid, seen, queue, tail, left_of(at), kind);
+    let tail = visit(grid, seen, queue, tail, right_of(at), kind);
+    let tail = visit(grid, seen, queue, tail, up_of(at), kind);
+    visit(grid, seen, queue, tail, down_of(at), kind)
 }

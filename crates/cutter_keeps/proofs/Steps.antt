@@ -1,4 +1,5 @@
 -- The player's step: it closes a cut, lays line, or leaves the numbers as they are. Assumes nothing.
+use Rattle.std.specs.Prelude.{None, Option, Some}
 use mathlib.Core.Bool.{Bool, true, false, not, ◌&&◌, true≢false}
 use mathlib.Core.List.{List}
 use mathlib.Core.Logic.{⊎_elim}
@@ -13,7 +14,6 @@ use Rattle.laws.proofs.Choice.{cond_both, bool_cases, and_left, and_right, and_t
 use Rattle.laws.proofs.Lists.{all_at, any_at}
 use Rattle.found.specs.First.{nobody}
 use Rattle.found.specs.declared.Found.{Found}
-use Rattle.found.specs.declared.Found.TheVariants.{At, Nobody}
 use Rattle.found.proofs.First.{nobody-any}
 use Rattle.cutter_ground.specs.Cells.{CN, CB_BLACK, CB_FILLED, CB_TRAIL, cell_at, on_border, line_at, claimed_at}
 use Rattle.cutter_state.specs.declared.Cutter.{Cutter}
@@ -96,15 +96,15 @@ module _ {c : Cutter} (w : WellFormed c) where
           (λ _. as_kept (closes_at false CB_FILLED e k) (lays_at CB_FILLED k) (kept-direction (kept_self w) (pos 0) (pos 0) refl)))
           (λ f. let k = black_else (no_line e h) f in as_laid (closes_at false CB_BLACK e k) (lays_at CB_BLACK k) (laying w t true h refl k n))
 
-  advances_by : no_direction c ≡ false → (b : Bool) (f : Found) → ltb t CN ≡ b → creature_at (creatures c) t ≡ f → advances c ≡ (b && nobody f)
+  advances_by : no_direction c ≡ false → (b : Bool) (f : Option Found) → ltb t CN ≡ b → creature_at (creatures c) t ≡ f → advances c ≡ (b && nobody f)
   unfolding advances
   advances_by d b f p q = rw (d, p, q)
 
-  met-stepped : (f : Found) → no_direction c ≡ false → t < CN → creature_at (creatures c) t ≡ f → Stepped c (met f c t)
+  met-stepped : (f : Option Found) → no_direction c ≡ false → t < CN → creature_at (creatures c) t ≡ f → Stepped c (met f c t)
   unfolding met
-  met-stepped (At i n) d h q = halted (advances_by d true (At i n) (lt-ltb t CN h) q) (kept_dead (kept_self w) true)
-  met-stepped Nobody d h q =
-      let on = advances_by d true Nobody (lt-ltb t CN h) q in
+  met-stepped (Some f) d h q = halted (advances_by d true (Some f) (lt-ltb t CN h) q) (kept_dead (kept_self w) true)
+  met-stepped None d h q =
+      let on = advances_by d true None (lt-ltb t CN h) q in
       let n = not-true (any (λ e. eqb (place_of e) t) (creatures c)) (sym (nobody-any (λ e. eqb (place_of e) t) (creatures c)) ∙ ap nobody q) in
       cond_both (Stepped c) c.trailing _ _ (λ e. trailing_stepped on h n e) (λ e. walking_stepped on h n e)
 
@@ -124,9 +124,9 @@ step-stepped c w =
 
 -- ---- a step that closes is what document 01 says of it
 
-found_nobody : (f : Found) → nobody f ≡ true → f ≡ Nobody
-found_nobody (At i n) e = absurd (true≢false (sym e))
-found_nobody Nobody e = refl
+found_nobody : (f : Option Found) → nobody f ≡ true → f ≡ None
+found_nobody (Some f) e = absurd (true≢false (sym e))
+found_nobody None e = refl
 
 pub closes-step : ClosesStep
 unfolding closes advances stepped met trailing_step

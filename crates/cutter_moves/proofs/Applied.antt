@@ -2,35 +2,22 @@
 use mathlib.Core.Bool.{Bool, true, false, cond, false≢true}
 use mathlib.Core.List.{List}
 use mathlib.Core.Path.{◌≡◌, refl, sym, ap, ◌∙◌}
-use Prim.Native.Nat.{ℕ, ◌/◌, ◌%◌}
+use Prim.Native.Nat.{ℕ}
 use mir.Facts.{to_z-of_z}
 use mir.Syntax.{w8}
 use mir.Val.{SFits, to_z, of_z}
-use lib.IntN.{pos}
 use lib.ListN.{set, get_or}
 use lib.Seq.{set-get_or}
-use Rattle.cutter_ground.specs.Cells.{CW, cell_at, on_border}
+use Rattle.cutter_ground.specs.Cells.{cell_at, on_border}
 use Rattle.cutter_state.specs.declared.Cutter.{Cutter}
 use Rattle.cutter_state.specs.Change.{with_grid, with_trailing, killed}
 use Rattle.cutter_rules.specs.Step.{player_cell, target, entered, laid, stopped, stepped, closes}
 use Rattle.cutter_moves.specs.declared.player.Step.{Step}
-use Rattle.cutter_moves.specs.CodeSteps.{playing, staying, laying, closed_at, applied, does, Plays, Tells, SteppedOn}
+use Rattle.cutter_moves.specs.CodeSteps.{playing, staying, stopping, dying, going, laying, shutting, closed_at, applied, does, Plays, Tells, SteppedOn}
 
--- the same with one thing changed
-abbrev pub dying : Step → Step
-dying s = record { px = s.px; py = s.py; dx = s.dx; dy = s.dy; trailing = s.trailing; dead = true; closes = s.closes; at = s.at; code = s.code }
-
-abbrev pub stopping : Step → Step
-stopping s = record { px = s.px; py = s.py; dx = pos 0; dy = pos 0; trailing = s.trailing; dead = s.dead; closes = s.closes; at = s.at; code = s.code }
-
-abbrev pub going : Step → ℕ → Step
-going s t = record { px = t % CW; py = t / CW; dx = s.dx; dy = s.dy; trailing = s.trailing; dead = s.dead; closes = s.closes; at = s.at; code = s.code }
-
+-- the same, drawing
 abbrev pub drawing : Step → Step
 drawing s = record { px = s.px; py = s.py; dx = s.dx; dy = s.dy; trailing = true; dead = s.dead; closes = s.closes; at = s.at; code = s.code }
-
-abbrev pub shutting : Step → ℕ → Step
-shutting s t = record { px = s.px; py = s.py; dx = s.dx; dy = s.dy; trailing = s.trailing; dead = s.dead; closes = true; at = t; code = s.code }
 
 -- a choice, by its test
 pub first-chosen : {A : Type 0} (b : Bool) (u v : A) → b ≡ true → u ≡ cond b u v

@@ -6,6 +6,7 @@ use Prim.Native.Nat.{ℕ, suc, ◌+◌, ◌≤◌, ◌<◌}
 use native.Mathlib.Numerals.{add-one}
 use native.Mathlib.Omega.{arith}
 use lib.Dec.{eqb}
+use Rattle.std.specs.Prelude.{None, Some}
 use lib.IntN.{ℤ, pos, negsuc}
 use lib.ListN.{length, get_or, take, drop, set, length-set, take-append-drop}
 use lib.Seq.{take-suc-set, drop-set-lt, append_snoc}
@@ -21,7 +22,6 @@ use Rattle.cutter_state.proofs.Ring.{holds-inside, holds_code, inside_ring}
 use Rattle.cutter_rules.specs.Ahead.{side_of, vertical_of, diagonal_of}
 use Rattle.cutter_rules.specs.Tick.{line_ahead, flipped, turned, gone_to, bounced, movers_stepped}
 use Rattle.cutter_moves.specs.declared.enemies.Moved.{Moved}
-use Rattle.cutter_moves.specs.declared.enemies.Roamed.{Roamed}
 use Rattle.cutter_moves.specs.declared.enemies.View.{View}
 use Rattle.cutter_moves.specs.CodeMoves.{Roams, Ticks, view_of, mover_at, roam_of, tick_of}
 use Rattle.cutter_ground.specs.Movers.{place_of}
@@ -29,9 +29,6 @@ use Rattle.cutter_ground.specs.Movers.{place_of}
 view_same : {a b : ℕ} {s t u v w x : ℕ} → a ≡ b → s ≡ t → u ≡ v → w ≡ x
     → ◌≡◌ {A = View} (record { to = a; side = s; vertical = u; diagonal = w }) (record { to = b; side = t; vertical = v; diagonal = x })
 view_same p q r o = cc
-
-roamed_same : {l m : Mover} → l ≡ m → ◌≡◌ {A = Roamed} (record { met = false; to = l }) (record { met = false; to = m })
-roamed_same p = cc
 
 module _ (g : List ℕ) (e : Mover) where
   -- the three cells read on the grid are what the creature sees
@@ -71,15 +68,15 @@ module _ (g : List ℕ) (e : Mover) where
 
     -- the three ways of a move
     pub roam_clear : (eqb v.side CB_BLACK && eqb v.vertical CB_BLACK && eqb v.diagonal CB_BLACK) ≡ true → (m : Mover) → m ≡ mover_at v.to e.vx e.vy
-        → record { met = false; to = m } ≡ roam_of g e
-    roam_clear c m q = let z = clear_on c in rw z.0 (roamed_same (q ∙ z.1))
+        → Some m ≡ roam_of g e
+    roam_clear c m q = let z = clear_on c in rw z.0 (ap Some (q ∙ z.1))
 
-    pub roam_line : (eqb v.side CB_TRAIL || eqb v.vertical CB_TRAIL || eqb v.diagonal CB_TRAIL) ≡ true → record { met = true; to = e } ≡ roam_of g e
+    pub roam_line : (eqb v.side CB_TRAIL || eqb v.vertical CB_TRAIL || eqb v.diagonal CB_TRAIL) ≡ true → None ≡ roam_of g e
     roam_line l = rw (sym line-seen ∙ l)
 
     pub roam_turned : (eqb v.side CB_TRAIL || eqb v.vertical CB_TRAIL || eqb v.diagonal CB_TRAIL) ≡ false → (m : Mover) → m ≡ bounced g e
-        → record { met = false; to = m } ≡ roam_of g e
-    roam_turned l m q = rw (sym line-seen ∙ l) (roamed_same q)
+        → Some m ≡ roam_of g e
+    roam_turned l m q = rw (sym line-seen ∙ l) (ap Some q)
 
   -- a creature on black is inside the ring
   pub roams : length g ≡ CN → rows_filled g ≡ true → columns_filled g ≡ true → mover_ok g e ≡ true → Roams g e e.vx e.vy
@@ -101,6 +98,15 @@ unfolding flipped
 turned-unit true v u = u
 turned-unit false (pos n) u = refl
 turned-unit false (negsuc n) u = refl
+
+-- a choice between nothing and something
+roam-some : (b : Bool) (m k : Mover) → Some m ≡ cond b None (Some k) → (b ≡ false) × (m ≡ k)
+roam-some true m k e = cc
+roam-some false m k e = (refl, cc)
+
+roam-none : (b : Bool) (k : Mover) → None ≡ cond b None (Some k) → b ≡ true
+roam-none true k e = refl
+roam-none false k e = cc
 
 -- where i creatures of the list l have moved, and out is the list now
 pub record Going (g : List ℕ) (l : List Mover) (n : ℕ) (out : List Mover) (i : ℕ) : Type 0 where
@@ -167,18 +173,11 @@ module _ (g : List ℕ) (l : List Mover) (n : ℕ) (out : List Mover) (i : ℕ) 
       moved_same out _ true _ p (any-holds (line_ahead g) (take n l) i e s.safe t)
 
   -- by what the move of the creature i was
-  module _ (k : i < n) (r : Roamed) (q : r ≡ roam_of g (get_or out i d)) where
-    met : line_ahead g (get_or out i d) ≡ r.met
-    met = ap (λ (z : Roamed). z.met) (sym q)
+  pub going_more : i < n → (m : Mover) → Some m ≡ roam_of g (get_or out i d) → Going g l n (set out i m) (i + 1)
+  going_more k m q = let z = roam-some (line_ahead g (get_or out i d)) m (bounced g (get_or out i d)) q in rw z.1 (gone-more k z.0)
 
-    pub going_more : r.met ≡ false → Going g l n (set out i r.to) (i + 1)
-    going_more t =
-        let f = met ∙ t in
-        let m : r.to ≡ bounced g (get_or out i d) = ap (λ (z : Roamed). z.to) q ∙ rw f in
-        rw m (gone-more k f)
-
-    pub going_dead : r.met ≡ true → record { enemies = out; dead = true } ≡ tick_of g l n
-    going_dead t = gone_dead k (met ∙ t)
+  pub going_dead : i < n → None ≡ roam_of g (get_or out i d) → record { enemies = out; dead = true } ≡ tick_of g l n
+  going_dead k q = gone_dead k (roam-none (line_ahead g (get_or out i d)) (bounced g (get_or out i d)) q)
 
 module _ (g : List ℕ) (l : List Mover) (n : ℕ) (out : List Mover) (i : ℕ) (s : Going g l n out i) (h : n ≤ length l) where
   pub going_end : n ≤ i → record { enemies = out; dead = false } ≡ tick_of g l n

@@ -95,7 +95,7 @@ module _ (c : Cutter) (w : WellFormed c) (s r : Step) (h : List ℕ) (d : Steppe
   unfolding step_searched
   searched n k = k ∙ ap (searched_of MAX_COMP) same ∙ first-chosen (closes c) (searched_of MAX_COMP c.grid) 0 closing
 
-  -- the cut closed, by either engine
+  -- the cut closed
   module _ (cut : Cut) (k : cut ≡ close_cut MAX_COMP h (creatures c)) where
     own : cut ≡ close_cut MAX_COMP c.grid (creatures c)
     own = k ∙ ap (λ (g : List ℕ). close_cut MAX_COMP g (creatures c)) same
@@ -108,10 +108,10 @@ module _ (c : Cutter) (w : WellFormed c) (s r : Step) (h : List ℕ) (d : Steppe
       pub walk-few : end.taken ≤ CN
       walk-few = omega (arith, ap (λ (x : Walked). x.taken) f, took_few cut.grid r.at d.inside)
 
-      pub shut-step : entered (shut c cut) end.at ≡ stepped c
+      shut-step : entered (shut c cut) end.at ≡ stepped c
       shut-step = closed_at_lem c r.at d.inside cut end.at own (ap (λ (x : Walked). x.at) f) ∙ shut-made c s r h d e t
 
-      pub shut-walked : end.taken ≡ step_walked c
+      shut-walked : end.taken ≡ step_walked c
       unfolding step_walked border_walked cut_closed
       shut-walked =
           ap (λ (x : Walked). x.taken) f
@@ -122,17 +122,16 @@ module _ (c : Cutter) (w : WellFormed c) (s r : Step) (h : List ℕ) (d : Steppe
       pub shut-makes : (n : ℕ) → n ≡ searched_of MAX_COMP h → record { game = entered (shut c cut) end.at; searched = n; walked = end.taken } ≡ step_made c
       shut-makes n l = made-same shut-step (searched n l) shut-walked
 
-      -- by sweeps the same, and nothing is searched
-      pub shut-sweeps : record { game = entered (shut c cut) end.at; searched = 0; walked = end.taken } ≡ swept_made c
-      shut-sweeps = made-same (shut-step ∙ sym (swept_step_lem c w.cells)) refl (shut-walked ∙ sym (swept-walked c w.cells))
-
 -- a step that closes nothing takes no cell
 module _ (c : Cutter) (s r : Step) (h : List ℕ) (d : SteppedOn c.grid c.enemies c.count s r h) (e : s ≡ staying c) (f : r.closes ≡ false) where
-  pub left-closes : closes c ≡ false
+  left-closes : closes c ≡ false
   left-closes = sym (shuts c s r h d e) ∙ f
 
   pub left-makes : record { game = with_grid (applied c r) h; searched = 0; walked = 0 } ≡ step_made c
   left-makes = let n = cost-kept.none c left-closes in made-same (left-made c s r h d e f) (sym n.0) (sym n.1)
 
-  pub left-sweeps : WellFormed c → step_made c ≡ swept_made c
-  left-sweeps w = made-same (sym (swept_step_lem c w.cells)) (cost-kept.none c left-closes).0 (sym (swept-walked c w.cells))
+-- by sweeps a step makes the same, and nothing is searched
+pub sweeps-make : (c : Cutter) → length c.grid ≡ CN → (g : Cutter) (n k : ℕ) → record { game = g; searched = n; walked = k } ≡ step_made c
+    → record { game = g; searched = 0; walked = k } ≡ swept_made c
+sweeps-make c long g n k e =
+    made-same (ap (λ (m : Made). m.game) e ∙ sym (swept_step_lem c long)) refl (ap (λ (m : Made). m.walked) e ∙ sym (swept-walked c long))

@@ -1,5 +1,5 @@
 -- Block Cutter: what the code of the moves is handed, and what its loop answers. No promise cites it.
-use Rattle.std.specs.Prelude.{true, cond, List, ◌++◌, ◌≡◌, ℕ, ◌-◌, ◌<◌, ◌≤◌, ◌/◌, ◌%◌, ℤ, length, take, drop}
+use Rattle.std.specs.Prelude.{true, cond, List, ◌++◌, ◌≡◌, ℕ, ◌-◌, ◌<◌, ◌≤◌, ◌/◌, ◌%◌, ℤ, length, take, drop, Option, None, Some}
 use Rattle.laws.specs.Lists.{all, any}
 use Rattle.cutter_ground.specs.Cells.{CW, CH, CN, cell_at}
 use Rattle.cutter_ground.specs.declared.Mover.{Mover}
@@ -7,7 +7,6 @@ use Rattle.cutter_state.specs.WellFormed.{rows_filled, columns_filled, is_unit, 
 use Rattle.cutter_rules.specs.Ahead.{side_of, vertical_of, diagonal_of}
 use Rattle.cutter_rules.specs.Tick.{line_ahead, bounced, movers_stepped}
 use Rattle.cutter_moves.specs.declared.enemies.Moved.{Moved}
-use Rattle.cutter_moves.specs.declared.enemies.Roamed.{Roamed}
 use Rattle.cutter_moves.specs.declared.enemies.View.{View}
 use Rattle.cutter_state.specs.CodeState.{Inside}
 use Rattle.cutter_ground.specs.Movers.{MAX_ENEMIES, place_of}
@@ -63,9 +62,9 @@ pub record Bounces (g : List ℕ) (e : Mover) (v : View) : Type 0 where
 abbrev pub mover_at : ℕ → ℤ → ℤ → Mover
 mover_at t vx vy = record { x = t % CW; y = t / CW; vx = vx; vy = vy }
 
--- whether a creature has line ahead, and where it is then
-abbrev pub roam_of : List ℕ → Mover → Roamed
-roam_of g e = record { met = line_ahead g e; to = cond (line_ahead g e) e (bounced g e) }
+-- where a creature is then, or none where it has line ahead
+abbrev pub roam_of : List ℕ → Mover → Option Mover
+roam_of g e = cond (line_ahead g e) None (Some (bounced g e))
 
 -- the tick of the first n creatures, and whether one of them had line ahead
 unfoldable pub tick_of : List ℕ → List Mover → ℕ → Moved

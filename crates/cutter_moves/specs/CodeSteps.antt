@@ -1,5 +1,5 @@
 -- Block Cutter: a step told as numbers, and what they make of a state. No promise cites it.
-use Rattle.std.specs.Prelude.{Bool, true, false, cond, List, ◌≡◌, ℕ, ◌<◌, ◌≤◌, ◌/◌, ◌%◌, ℤ, length, get_or, set}
+use Rattle.std.specs.Prelude.{Bool, true, false, cond, List, ◌≡◌, ℕ, ◌<◌, ◌≤◌, ◌/◌, ◌%◌, ℤ, pos, length, get_or, set}
 use Rattle.cutter_ground.specs.Cells.{CW, CH, CN, CB_TRAIL, place}
 use Rattle.cutter_ground.specs.declared.Mover.{Mover}
 use Rattle.cutter_state.specs.declared.Cutter.{Cutter}
@@ -14,6 +14,19 @@ playing g x y dx dy trailing dead = record { px = x; py = y; dx = dx; dy = dy; t
 -- the player as it is
 abbrev pub staying : Cutter → Step
 staying c = playing c.grid c.px c.py c.dx c.dy c.trailing c.dead
+
+-- the same with one thing changed: dead, without a direction, at the cell t, closing a cut there
+abbrev pub dying : Step → Step
+dying s = record { px = s.px; py = s.py; dx = s.dx; dy = s.dy; trailing = s.trailing; dead = true; closes = s.closes; at = s.at; code = s.code }
+
+abbrev pub stopping : Step → Step
+stopping s = record { px = s.px; py = s.py; dx = pos 0; dy = pos 0; trailing = s.trailing; dead = s.dead; closes = s.closes; at = s.at; code = s.code }
+
+abbrev pub going : Step → ℕ → Step
+going s t = record { px = t % CW; py = t / CW; dx = s.dx; dy = s.dy; trailing = s.trailing; dead = s.dead; closes = s.closes; at = s.at; code = s.code }
+
+abbrev pub shutting : Step → ℕ → Step
+shutting s t = record { px = s.px; py = s.py; dx = s.dx; dy = s.dy; trailing = s.trailing; dead = s.dead; closes = true; at = t; code = s.code }
 
 -- the player enters the cell t and leaves line there
 abbrev pub laying : Step → ℕ → Step

@@ -1,49 +1,22 @@
-// The creatures: who is at a cell, and their tick.
-ghost use Rattle.std.specs.Prelude.{cond, ◌&&◌, ◌||◌, ◌≡◌, ◌<◌, ◌≤◌, eqb, take, drop};
-ghost use Rattle.laws.specs.Lists as L;
+// The creatures: whether one is at a cell, and their tick.
+ghost use Rattle.std.specs.Prelude.{cond, ◌&&◌, ◌||◌, ◌≡◌, ◌<◌, ◌≤◌, eqb};
+ghost use Rattle.laws.specs.Lists.{any};
 ghost use Rattle.cutter_ground.specs.Cells.{CN, CB_BLACK, CB_TRAIL};
 ghost use Rattle.cutter_state.specs.WellFormed.{WellFormed};
 ghost use Rattle.cutter_rules.specs.Tick.{flipped, gone_to, bounced, enemies_stepped};
 ghost use Rattle.cutter_moves.specs.CodeMoves.{Roams, Bounces, Ticks, view_of, mover_at, roam_of, tick_of};
-ghost use Rattle.cutter_rules.specs.Step.{is_at, creature_at};
+ghost use Rattle.cutter_rules.specs.Step.{is_at};
 ghost use Rattle.cutter_ground.specs.Movers.{MAX_ENEMIES};
 
 use crate::ahead::{side_in, vertical_in};
 use cutter_ground::{CB_BLACK, CB_TRAIL, CN, CW, MAX_ENEMIES, Mover, cell_of};
 use cutter_state::Cutter;
-use found::Found;
 
-// How many of the first `count` creatures are at a cell, from number `from` on.
-fn number_from(enemies: [Mover; MAX_ENEMIES], from: usize, count: usize, at: usize) -> usize
-    requires { count ≤ MAX_ENEMIES }
-    ensures { result ≡ L.count (is_at at) (drop from (take count enemies)) }
+// Whether a creature is at a cell.
+pub fn is_taken(herd: &[Mover], at: usize) -> bool
+    ensures { result ≡ any (is_at at) herd.now }
 {
-    let mut n: usize = 0;
-    let mut i = from;
-    while i < count {
-        let e = enemies[i];
-        if cell_of(e) == at {
-            n += 1;
-        }
-        i += 1;
-    }
-    n
-}
-
-// The first creature at a cell and how many are there, or nobody.
-pub fn enemy_at(enemies: [Mover; MAX_ENEMIES], count: usize, at: usize) -> Found
-    requires { count ≤ MAX_ENEMIES }
-    ensures { result ≡ creature_at (take count enemies) at }
-{
-    let mut i: usize = 0;
-    while i < count {
-        let e = enemies[i];
-        if cell_of(e) == at {
-            return Found::At(i, number_from(enemies, i, count, at));
-        }
-        i += 1;
-    }
-    Found::Nobody
+    herd.iter().any(|e| cell_of(*e) == at)
 }
 
 // What a creature has ahead: the diagonal cell, and what the side, the vertical and the diagonal one hold.
@@ -65,24 +38,26 @@ fn look(grid: &[u8; CN], e: Mover) -> View
     let above = vertical_in(at, e.vy);
     let to = side_in(above, e.vx);
     View {
-        to: to,
+        to,
         side: grid[beside],
         vertical: grid[above],
         diagonal: grid[to],
     }
 }
 
-fn is_clear(v: View) -> bool
-    ensures { result ≡ (eqb v.side CB_BLACK && eqb v.vertical CB_BLACK && eqb v.diagonal CB_BLACK) }
-{
-    (v.side == CB_BLACK) & (v.vertical == CB_BLACK) & (v.diagonal == CB_BLACK)
-}
+impl View {
+    fn is_clear(self) -> bool
+        ensures { result ≡ (eqb self.side CB_BLACK && eqb self.vertical CB_BLACK && eqb self.diagonal CB_BLACK) }
+    {
+        self.side == CB_BLACK && self.vertical == CB_BLACK && self.diagonal == CB_BLACK
+    }
 
-// Touching the line, in any of the three cells ahead, is a breach.
-fn is_line(v: View) -> bool
-    ensures { result ≡ (eqb v.side CB_TRAIL || eqb v.vertical CB_TRAIL || eqb v.diagonal CB_TRAIL) }
-{
-    (v.side == CB_TRAIL) | (v.vertical == CB_TRAIL) | (v.diagonal == CB_TRAIL)
+    // Touching the line, in any of the three cells ahead, is a breach.
+    fn is_line(self) -> bool
+        ensures { result ≡ (eqb self.side CB_TRAIL || eqb self.vertical CB_TRAIL || eqb self.diagonal CB_TRAIL) }
+    {
+        self.side == CB_TRAIL || self.vertical == CB_TRAIL || self.diagonal == CB_TRAIL
+    }
 }
 
 fn flip(v: i8) -> i8
@@ -105,8 +80,8 @@ fn put(to: usize, vx: i8, vy: i8) -> Mover
     Mover {
         x: (to % CW) as u8,
         y: (to / CW) as u8,
-        vx: vx,
-        vy: vy,
+        vx,
+        vy,
     }
 }
 
@@ -120,12 +95,7 @@ fn go(grid: &[u8; CN], e: Mover, vx: i8, vy: i8) -> Mover
     if grid[to] == CB_BLACK {
         return put(to, vx, vy);
     }
-    Mover {
-        x: e.x,
-        y: e.y,
-        vx: vx,
-        vy: vy,
-    }
+    Mover { vx, vy, ..e }
 }
 
 fn bounce(grid: &[u8; CN], e: Mover, v: View) -> Mover
@@ -137,31 +107,19 @@ fn bounce(grid: &[u8; CN], e: Mover, v: View) -> Mover
     go(grid, e, vx, vy)
 }
 
-// A creature after its move, or as it was where it met the line.
-#[derive(Clone, Copy)]
-pub struct Roamed {
-    pub met: bool,
-    pub to: Mover,
-}
-
-// Bounce diagonally through the black: straight on where all three cells ahead are.
-fn roam(grid: &[u8; CN], e: Mover) -> Roamed
+// Bounce diagonally through the black: straight on where all three cells ahead are. None where the creature met the line.
+fn roam(grid: &[u8; CN], e: Mover) -> Option<Mover>
     requires { Roams grid.now e e.vx e.vy }
     ensures { result ≡ roam_of grid.now e }
 {
     let v = look(grid, e);
-    if is_clear(v) {
-        let on = put(v.to, e.vx, e.vy);
-        return Roamed { met: false, to: on };
+    if v.is_clear() {
+        return Some(put(v.to, e.vx, e.vy));
     }
-    if is_line(v) {
-        return Roamed { met: true, to: e };
+    if v.is_line() {
+        return None;
     }
-    let back = bounce(grid, e, v);
-    Roamed {
-        met: false,
-        to: back,
-    }
+    Some(bounce(grid, e, v))
 }
 
 // The creatures after a tick, and whether one of them met the line.
@@ -178,19 +136,14 @@ pub fn tick(grid: &[u8; CN], enemies: [Mover; MAX_ENEMIES], count: usize) -> Mov
     ensures { result ≡ tick_of grid.now enemies count }
 {
     let mut out = enemies;
-    let mut i: usize = 0;
-    while i < count {
-        let e = out[i];
-        let r = roam(grid, e);
-        if r.met {
+    for i in 0..count {
+        let Some(to) = roam(grid, out[i]) else {
             return Moved {
                 enemies: out,
                 dead: true,
             };
-        }
-        let to = r.to;
+        };
         out[i] = to;
-        i += 1;
     }
     Moved {
         enemies: out,
@@ -203,11 +156,12 @@ pub fn step_enemies(c: Cutter) -> Cutter
     requires { WellFormed c }
     ensures { result ≡ enemies_stepped c }
 {
-    let mut out = c;
-    let enemies = c.enemies;
-    let t = tick(&out.grid, enemies, c.count);
-    let moved = t.enemies;
-    out.enemies = moved;
-    out.dead = c.dead | t.dead;
-    out
+    let herd = c.enemies;
+    let t = tick(&c.grid, herd, c.count);
+    let enemies = t.enemies;
+    Cutter {
+        enemies,
+        dead: c.dead | t.dead,
+        ..c
+    }
 }

@@ -6,4 +6,4 @@ mod enemies;
 mod player;
 
 pub use enemies::{Moved, step_enemies, tick};
-pub use player::{Step, direction, respawn, step_by_sweeps, step_on, step_player};
+pub use player::{Player, Step, direction, respawn, step_by_sweeps, step_on, step_player};

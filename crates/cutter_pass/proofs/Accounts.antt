@@ -7,6 +7,7 @@ use Prim.Native.Nat.{ℕ, ◌+◌}
 use native.Mathlib.Omega.{arith}
 use lib.Dec.{eqb}
 use borrow.Author.Tests.{not-true}
+use Rattle.refusal.specs.Refusal.{number_given}
 use Rattle.laws.proofs.Choice.{cond_both, bool_cases, and_left, and_right}
 use Rattle.pace.specs.declared.Ticks.{Ticks}
 use Rattle.pace.specs.Pace.{both_ticks}
@@ -100,7 +101,7 @@ module _ (first second : ℕ) (c : Cutter) (keys draws : List ℕ) (time : ℕ) 
   due-parts n = (not-true c.dead (and_left (not c.dead) c.won_level n), and_right (not c.dead) c.won_level n)
 
   -- every state that a pass gives without a refusal is well formed
-  pub pass-formed : (pass_refusal c draws).number ≡ 0 → WellFormed t.passed.game
+  pub pass-formed : number_given (pass_refusal c draws) ≡ 0 → WellFormed t.passed.game
   pass-formed e =
       let w = pass_state c draws e in
       ⊎_elim (λ n. let q = due-parts n in (pass-fresh w (pass-level c draws e q.0 q.1) q.0 q.1).formed) (λ n. (pass_accounts w n).formed) (bool_cases (level_due c))

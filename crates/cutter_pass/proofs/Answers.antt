@@ -1,10 +1,11 @@
 -- The ways through a pass, each as the definition has it. Assumes nothing.
+use Rattle.std.specs.Prelude.{Ok, Err}
 use mathlib.Core.Bool.{true, false, cond}
 use mathlib.Core.List.{List}
 use mathlib.Core.Path.{◌≡◌, sym}
 use Prim.Native.Nat.{ℕ}
+use Rattle.refusal.specs.Refusal.{Checked, NONE}
 use Rattle.refusal.specs.declared.Refusal.{Refusal}
-use Rattle.refusal.specs.Refusal.{NONE}
 use Rattle.refusal.proofs.Calls.{turned_away, let_in}
 use Rattle.answer.specs.declared.Answer.TheVariants.{GoingOn, Quit}
 use Rattle.pace.specs.declared.Ticks.{Ticks}
@@ -41,11 +42,11 @@ module _ (c : Cutter) (keys draws : List ℕ) (time first second : ℕ) where
   unfolding pass_on
   on_keys d w = rw (d, w)
 
-  module _ {no : Refusal} (e : no ≡ pass_refusal c draws) where
-    pub refused-pass : (no.number ≡ 0 → ⊥) → still first second no GoingOn c ≡ pass_at c keys draws time first second
+  module _ {no : Checked} (e : no ≡ pass_refusal c draws) where
+    pub refused-pass : {r : Refusal} → no ≡ Err r → still first second (Err r) GoingOn c ≡ pass_at c keys draws time first second
     unfolding pass_at
-    refused-pass some = turned_away (λ (n : Refusal). still first second n GoingOn c) (pass_on first second c keys draws time) e some
+    refused-pass q = turned_away (λ (n : Checked). still first second n GoingOn c) (pass_on first second c keys draws time) e q
 
-    pub played-pass : no.number ≡ 0 → {t : CutterTurn} → pass_on first second c keys draws time ≡ t → t ≡ pass_at c keys draws time first second
+    pub played-pass : {u : Unit {0}} → no ≡ Ok u → {t : CutterTurn} → pass_on first second c keys draws time ≡ t → t ≡ pass_at c keys draws time first second
     unfolding pass_at
-    played-pass z q = let_in (λ (n : Refusal). still first second n GoingOn c) (pass_on first second c keys draws time) e (sym q) z
+    played-pass z q = let_in (λ (n : Checked). still first second n GoingOn c) (pass_on first second c keys draws time) e (sym q) z

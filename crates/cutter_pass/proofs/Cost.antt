@@ -4,6 +4,7 @@ use mathlib.Core.Path.{◌≡◌}
 use Prim.Native.Nat.{ℕ, ◌≤◌}
 use native.Mathlib.Omega.{arith}
 use lib.Dec.{eqb}
+use Rattle.refusal.specs.Refusal.{number_given}
 use Rattle.laws.proofs.Choice.{cond_both}
 use Rattle.refusal.proofs.Calls.{refused_or-answered}
 use Rattle.answer.specs.declared.Answer.TheVariants.{GoingOn}
@@ -54,7 +55,7 @@ module _ (c : Cutter) (keys draws : List ℕ) (time first second : ℕ) where
       refused_or-answered (λ n. still first second n GoingOn c) (pass_on first second c keys draws time) Within (pass_refusal c draws)
       (λ _. nothing) (λ e. on_within (pass_state c draws e))
 
-  pass-refused : ((pass_refusal c draws).number ≡ 0 → ⊥) → Costs (pass_at c keys draws time first second).passed 0 0
+  pass-refused : (number_given (pass_refusal c draws) ≡ 0 → ⊥) → Costs (pass_at c keys draws time first second).passed 0 0
   unfolding pass_at
   pass-refused some =
       refused_or-answered (λ n. still first second n GoingOn c) (pass_on first second c keys draws time) (λ t. Costs t.passed 0 0) (pass_refusal c draws)

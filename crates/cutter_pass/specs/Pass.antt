@@ -1,7 +1,6 @@
 -- Document 01, 'One pass, and the pacing record': one turn of Block Cutter's loop, on the numbers of the record.
 use Rattle.std.specs.Prelude.{Bool, true, false, cond, not, ◌&&◌, List, ℕ, ◌+◌, ◌-◌, ◌*◌, ◌/◌, eqb, ltb, length}
-use Rattle.refusal.specs.declared.Refusal.{Refusal}
-use Rattle.refusal.specs.Refusal.{NONE, DRAWS, LAST_LEVEL, unless, ◌then◌, refused_or}
+use Rattle.refusal.specs.Refusal.{Checked, NONE, DRAWS, LAST_LEVEL, unless, ◌then◌, refused_or}
 use Rattle.answer.specs.declared.Answer.{Answer}
 use Rattle.answer.specs.declared.Answer.TheVariants.{GoingOn, Over, Quit}
 use Rattle.pace.specs.declared.Pace.{Pace}
@@ -40,13 +39,13 @@ unfoldable pub level_due : Cutter → Bool
 level_due c = not c.dead && c.won_level
 
 -- 8 where the level is 65,535; then 7 for draws that are not those of level n, the old level plus 1
-unfoldable pub level_refusal : Cutter → List ℕ → Refusal
+unfoldable pub level_refusal : Cutter → List ℕ → Checked
 level_refusal c draws =
     unless (not (eqb c.level MAX_LEVEL)) LAST_LEVEL
     then unless (draws_ok draws (creatures_of (c.level + 1))) DRAWS
 
 -- after the state's own refusals; 7 for any draws in other passes
-unfoldable pub pass_refusal : Cutter → List ℕ → Refusal
+unfoldable pub pass_refusal : Cutter → List ℕ → Checked
 pass_refusal c draws =
     refusal_of c then cond (level_due c) (level_refusal c draws) (unless (eqb (length draws) 0) DRAWS)
 
@@ -96,7 +95,7 @@ paced_walked c due = cond due.one (step_walked c) 0
 
 module _ (first second : ℕ) where
   -- the record with these marks, and the cells that a search and a walk took
-  abbrev pub costing : Refusal → Answer → Cutter → ℕ → ℕ → CutterTurn
+  abbrev pub costing : Checked → Answer → Cutter → ℕ → ℕ → CutterTurn
   costing refusal answer c searched walked =
       record {
         first = first;
@@ -105,7 +104,7 @@ module _ (first second : ℕ) where
       }
 
   -- neither search nor walk
-  abbrev pub still : Refusal → Answer → Cutter → CutterTurn
+  abbrev pub still : Checked → Answer → Cutter → CutterTurn
   still refusal answer c = costing refusal answer c 0 0
 
   -- over at 0 lives, else respawn, end of pass

@@ -5,7 +5,7 @@
 use answer::Answer;
 use cutter_ground::INNER;
 use cutter_state::Cutter;
-use refusal::Refusal;
+use refusal::Checked;
 
 // Cycles between player steps and creature steps.
 pub const CUT_MOVE_CYCLES: u32 = 2_400_000;
@@ -20,7 +20,7 @@ pub const CLEAR_BELOW: usize = INNER * CLEAR_BLACK_PCT / 100;
 // The state afterwards, and how many cells were taken by the search of its step's closing and by its walk to the border.
 #[derive(Clone, Copy)]
 pub struct CutterPassed {
-    pub refusal: Refusal,
+    pub refusal: Checked,
     pub answer: Answer,
     pub game: Cutter,
     pub searched: u16,

@@ -42,15 +42,13 @@ fn gather(
     ensures { Gathered nums.now seen.old queue.old from start seen.new queue.new result CN }
 {
     let number = start as u16;
-    let mut tail: usize = from;
-    let mut c: usize = 0;
-    while c < CN {
-        if nums[c] == number {
+    let mut tail = from;
+    for (c, of) in nums.iter().enumerate() {
+        if *of == number {
             seen[c] = SEEN;
             queue[tail] = c as u16;
             tail += 1;
         }
-        c += 1;
     }
     tail
 }

@@ -1,7 +1,7 @@
 -- The picture's layers, one drawn on the other. Assumes nothing.
 use mathlib.Core.Path.{◌≡◌, refl, sym, ap, ◌∙◌}
-use mathlib.Core.Bool.{Bool, ◌||◌, ◌&&◌, not, xor, and_assoc, and_comm, and-true, or_assoc, or-false}
-use mathlib.Core.List.{List, []}
+use mathlib.Core.Bool.{Bool, ◌||◌, ◌&&◌, not, xor, and_assoc, and_comm, or_assoc}
+use mathlib.Core.List.{List}
 use mathlib.Core.Logic.{◌⊎◌, inl, inr}
 use Prim.Native.Nat.{ℕ, ◌+◌, ◌*◌, ◌/◌, ◌<◌}
 use native.Mathlib.Omega.{arith}
@@ -12,7 +12,7 @@ use Rattle.laws.proofs.Choice.{same?}
 use Rattle.laws.proofs.Lists.{any-take}
 use Rattle.laws.proofs.Below.{below_turn}
 use Rattle.frame.specs.Frame.{pack, pixel}
-use Rattle.frame.specs.CodeDraw.{Framed, inked, papered, inverted}
+use Rattle.frame.specs.CodeDraw.{inked, papered, inverted}
 use Rattle.frame.proofs.Pack.{pack_ext}
 use Rattle.frame.proofs.Draw.{drawn_pack, xor_false}
 use Rattle.cutter_ground.specs.declared.Mover.{Mover}
@@ -21,11 +21,8 @@ use Rattle.cutter_state.specs.State.{creatures}
 use Rattle.cutter_picture.specs.Picture.{dot_lit, cell_lit, ground_lit, mover_lit, no_life, cut_lit}
 use Rattle.cutter_render.specs.CodeDraw.{column_lit}
 
--- no creature, and one more
+-- one creature more
 module _ (frame₀ : List ℕ) (es : List Mover) where
-  pub movers_none : Framed frame₀ → frame₀ ≡ inked frame₀ (λ x y. any (mover_lit x y) [])
-  movers_none e = e ∙ pack_ext _ _ (λ x y hx hy. sym (or-false (pixel frame₀ x y)))
-
   pub movers_more : (i : ℕ) (d : Mover) (frame : List ℕ) → i < length es →
       frame ≡ inked frame₀ (λ x y. any (mover_lit x y) (take i es)) →
       inked frame (dot_lit ((get_or es i d).x * 2) ((get_or es i d).y * 2)) ≡ inked frame₀ (λ x y. any (mover_lit x y) (take (i + 1) es))
@@ -35,11 +32,8 @@ module _ (frame₀ : List ℕ) (es : List Mover) where
       ∙ pack_ext _ _ (λ x y hx hy. or_assoc (pixel frame₀ x y) (any (mover_lit x y) (take i es)) (mover_lit x y (get_or es i d))
       ∙ ap (λ (b : Bool). pixel frame₀ x y || b) (sym (any-take (mover_lit x y) es i d h))))
 
--- no life, and one more
+-- one life more
 module _ (frame₀ : List ℕ) where
-  pub lives-none : Framed frame₀ → frame₀ ≡ pack (λ x y. pixel frame₀ x y && no_life 0 x y)
-  lives-none e = e ∙ pack_ext _ _ (λ x y hx hy. sym (and-true (pixel frame₀ x y)))
-
   pub lives_more : (i : ℕ) (frame : List ℕ) → frame ≡ pack (λ x y. pixel frame₀ x y && no_life i x y) →
       papered frame (dot_lit (2 + 3 * i) 0) ≡ pack (λ x y. pixel frame₀ x y && no_life (i + 1) x y)
   lives_more i frame e =

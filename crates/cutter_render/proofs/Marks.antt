@@ -6,8 +6,7 @@ use Prim.Native.Nat.{ℕ, ◌+◌, ◌*◌, ◌/◌, ◌%◌, ◌<◌}
 use native.Mathlib.Omega.{arith}
 use borrow.Author.Tests.{eq-eqb, ne_eqb, ltb-true}
 use lib.Dec.{eqb, ltb}
-use lib.ListN.{get_or, take}
-use lib.Seq.{get_or-take}
+use lib.ListN.{get_or}
 use mathlib.Core.List.{List}
 use Rattle.laws.specs.Lists.{all}
 use Rattle.laws.proofs.Choice.{same?, and_left, and_right}
@@ -51,11 +50,11 @@ module _ (x cy : ℕ) (hx : x < 128) (hy : cy < 32) where
       go (inl p) (inr q) = rw (ne_eqb cy (b / 2) q) (and-false (eqb x a))
       go (inr p) q = rw (ne_eqb x a p)
 
--- a creature of the first n is on the grid
-pub on_panel_lem : (es : List Mover) (n i : ℕ) (d : Mover) → on_panel d ≡ true → i < n → all on_panel (take n es) ≡ true → ((get_or es i d).x < CW) × ((get_or es i d).y < CH)
-on_panel_lem es n i d z h e =
-    let t = rw (get_or-take n es i d h) at (all_at on_panel (take n es) i d e z) in
+-- each creature is on the grid
+pub on_panel_lem : (es : List Mover) (i : ℕ) (d : Mover) → on_panel d ≡ true → all on_panel es ≡ true → ((get_or es i d).x < CW) × ((get_or es i d).y < CH)
+on_panel_lem es i d z h =
     let e = get_or es i d in
+    let t = all_at on_panel es i d h z in
     (ltb-true e.x CW (and_left (ltb e.x CW) (ltb e.y CH) t), ltb-true e.y CH (and_right (ltb e.x CW) (ltb e.y CH) t))
 
 -- where a code stands is on the grid

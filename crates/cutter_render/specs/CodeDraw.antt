@@ -1,5 +1,5 @@
 -- The picture's parts, as the code draws them one on the other. No promise cites it.
-use Rattle.std.specs.Prelude.{Bool, true, ◌&&◌, List, ◌++◌, ◌≡◌, ℕ, ◌+◌, ◌*◌, ◌/◌, ◌<◌, ◌≤◌, eqb, length, take, drop}
+use Rattle.std.specs.Prelude.{Bool, true, ◌&&◌, List, ◌++◌, ◌≡◌, ℕ, ◌+◌, ◌*◌, ◌/◌, ◌<◌, ◌≤◌, eqb, length, drop}
 use Rattle.laws.specs.Lists.{all, table}
 use Rattle.frame.specs.Frame.{PAGES, PAGE_LEN, FRAME_LEN, page_byte}
 use Rattle.frame.specs.CodeDraw.{Framed}
@@ -7,7 +7,6 @@ use Rattle.cutter_ground.specs.Cells.{CW, CH, CN, cell_at, place, on_grid}
 use Rattle.cutter_ground.specs.declared.Mover.{Mover}
 use Rattle.cutter_state.specs.WellFormed.{MAX_LIVES}
 use Rattle.cutter_picture.specs.Picture.{is_ink, ground_lit}
-use Rattle.cutter_ground.specs.Movers.{MAX_ENEMIES}
 
 -- the four cells of column cx in page p, two rows of pixels each
 abbrev pub cells_lit : List ℕ → ℕ → ℕ → ℕ → Bool
@@ -63,11 +62,10 @@ pub record Column (frame : List ℕ) (x cy : ℕ) : Type 0 where
 abbrev pub on_panel : Mover → Bool
 on_panel e = on_grid e.x e.y
 
--- n creatures on the grid
-pub record Peopled (frame : List ℕ) (es : List Mover) (n : ℕ) : Type 0 where
+-- creatures on the grid
+pub record Peopled (frame : List ℕ) (es : List Mover) : Type 0 where
   pub framed : Framed frame
-  pub few : n ≤ MAX_ENEMIES
-  pub each : all on_panel (take n es) ≡ true
+  pub each : all on_panel es ≡ true
 
 -- so many lives
 pub record Alive (frame : List ℕ) (n : ℕ) : Type 0 where

@@ -1,7 +1,7 @@
 // Block Cutter: the picture, in a lent frame.
 #![tactic(auto)]
 
-ghost use Rattle.std.specs.Prelude.{◌≡◌, ◌&&◌, take};
+ghost use Rattle.std.specs.Prelude.{◌≡◌, ◌&&◌};
 ghost use Rattle.laws.specs.Lists.{any};
 ghost use Rattle.bits.specs.Bits.{number};
 ghost use Rattle.frame.specs.Frame.{pack, pixel};
@@ -11,7 +11,7 @@ ghost use Rattle.cutter_render.specs.CodeDraw.{Alive, Cell, Column, Four, Lent, 
 ghost use Rattle.cutter_picture.specs.CodePicture.{Drawable};
 
 use bits::TILE;
-use cutter_ground::{CB_FILLED, CB_TRAIL, CN, CW, MAX_ENEMIES, Mover};
+use cutter_ground::{CB_FILLED, CB_TRAIL, CN, CW, Mover};
 use cutter_state::Cutter;
 use frame::{PAGE_LEN, PAGES};
 
@@ -19,13 +19,14 @@ use frame::{PAGE_LEN, PAGES};
 const ROWS: usize = TILE / 2;
 
 // Two rows of ink for a claimed or line cell.
+#[tactic(auto, unfolding(bits::specs::Bits::number))]
 fn cell_bits(code: u8) -> u8
     ensures { result ≡ number 2 (λ _. is_ink code) }
 {
-    if (code == CB_FILLED) | (code == CB_TRAIL) {
-        return 3;
+    match code {
+        CB_FILLED | CB_TRAIL => 3,
+        _ => 0,
     }
-    0
 }
 
 // The four cells of column cx in page p as a page byte.
@@ -45,13 +46,11 @@ fn ground_page(frame: &mut [u8], grid: &[u8; CN], p: usize)
     requires { Paged frame.old grid.now p }
     ensures { NextPage grid.now p frame.old frame.new }
 {
-    let mut cx: usize = 0;
-    while cx < CW {
+    for cx in 0..CW {
         let b = ground_byte(grid, p, cx);
         let at = p * PAGE_LEN + 2 * cx;
         frame[at] = b;
         frame[at + 1] = b;
-        cx += 1;
     }
 }
 
@@ -59,10 +58,8 @@ fn draw_ground(frame: &mut [u8], grid: &[u8; CN])
     requires { Lent frame.old grid.now }
     ensures { frame.new ≡ pack (ground_lit grid.now) }
 {
-    let mut p: usize = 0;
-    while p < PAGES {
+    for p in 0..PAGES {
         ground_page(frame, grid, p);
-        p += 1;
     }
 }
 
@@ -93,15 +90,12 @@ fn invert_column(frame: &mut [u8], x: usize, cy: usize)
     frame[at] ^= bits::cell_mask(x / 2, cy, cy / ROWS, x);
 }
 
-fn draw_enemies(frame: &mut [u8], enemies: [Mover; MAX_ENEMIES], count: usize)
-    requires { Peopled frame.old enemies count }
-    ensures { frame.new ≡ inked frame.old (λ x y. any (mover_lit x y) (take count enemies)) }
+fn draw_enemies(frame: &mut [u8], enemies: &[Mover])
+    requires { Peopled frame.old enemies.now }
+    ensures { frame.new ≡ inked frame.old (λ x y. any (mover_lit x y) enemies.now) }
 {
-    let mut i: usize = 0;
-    while i < count {
-        let e = enemies[i];
+    for e in enemies {
         put_ink(frame, e.x as usize * 2, e.y as usize * 2);
-        i += 1;
     }
 }
 
@@ -119,10 +113,8 @@ fn draw_lives(frame: &mut [u8], lives: usize)
     requires { Alive frame.old lives }
     ensures { frame.new ≡ pack (λ x y. pixel frame.old x y && no_life lives x y) }
 {
-    let mut i: usize = 0;
-    while i < lives {
+    for i in 0..lives {
         put_paper(frame, 2 + 3 * i, 0);
-        i += 1;
     }
 }
 
@@ -132,8 +124,7 @@ pub fn cutter_render(c: Cutter, frame: &mut [u8])
     ensures { frame.new ≡ pack (cut_lit c) }
 {
     draw_ground(frame, &c.grid);
-    let enemies = c.enemies;
-    draw_enemies(frame, enemies, c.count);
+    draw_enemies(frame, &c.enemies[..c.count]);
     draw_player(frame, c.px, c.py);
     draw_lives(frame, c.lives as usize);
 }

@@ -1,4 +1,5 @@
 -- What a step, a closing and a respawn leave alone, and what becomes of a line. Assumes nothing.
+use Rattle.std.specs.Prelude.{None, Option, Some}
 use mathlib.Core.Bool.{true, cond}
 use mathlib.Core.List.{[], ◌∷◌, map}
 use mathlib.Core.Path.{◌≡◌, refl}
@@ -6,7 +7,6 @@ use Prim.Native.Nat.{ℕ}
 use lib.Dec.{leb}
 use Rattle.laws.proofs.Choice.{cond_both}
 use Rattle.found.specs.declared.Found.{Found}
-use Rattle.found.specs.declared.Found.TheVariants.{At, Nobody}
 use Rattle.cutter_ground.specs.Cells.{CN, CB_BLACK, CB_FILLED, CB_TRAIL, on_border, line_at, claimed_at}
 use Rattle.cutter_state.specs.declared.Cutter.{Cutter}
 use Rattle.cutter_state.specs.State.{creatures}
@@ -33,10 +33,10 @@ module _ (c : Cutter) where
         (λ e. cond_both Same (on_border c.grid t) (entered c t) (stopped c) (λ e. refl) (λ e. refl))
         (λ e. refl)
 
-    met_won : (f : Found) → Same (met f c t)
+    met_won : (f : Option Found) → Same (met f c t)
     unfolding met
-    met_won (At i n) = refl
-    met_won Nobody = cond_both Same c.trailing (trailing_step c t) (walking_step c t) (λ e. trailing_won) (λ e. walking_won)
+    met_won (Some f) = refl
+    met_won None = cond_both Same c.trailing (trailing_step c t) (walking_step c t) (λ e. trailing_won) (λ e. walking_won)
 
   pub step_won : Same (stepped c)
   unfolding stepped

@@ -1,11 +1,12 @@
 -- The player's step, by what it finds on the way. Assumes nothing.
+use Rattle.std.specs.Prelude.{None, Option}
 use mathlib.Core.Bool.{Bool, true, false, cond, ◌&&◌}
 use mathlib.Core.Path.{◌≡◌, sym, ap, ◌∙◌}
 use Prim.Native.Nat.{ℕ, ◌/◌, ◌%◌, ◌≤◌, ◌<◌}
 use native.Mathlib.Omega.{arith}
 use borrow.Author.Tests.{le-leb, lt-leb, le-ltb, lt-ltb}
 use Rattle.found.specs.declared.Found.{Found}
-use Rattle.found.specs.declared.Found.TheVariants.{At, Nobody}
+use Rattle.found.specs.First.{At}
 use Rattle.cutter_ground.specs.Cells.{CW, CN, on_border, line_at, claimed_at, place}
 use Rattle.cutter_border.proofs.Nearest.{nearest}
 use Rattle.cutter_state.specs.declared.Cutter.{Cutter}
@@ -24,19 +25,19 @@ module _ (c : Cutter) (d : no_direction c ≡ false) (t : ℕ) (e : t ≡ target
   unfolding stepped
   step-off h = rw (d, ← e, le-leb CN t h)
 
-  step_on : (f : Found) → t < CN → f ≡ creature_at (creatures c) t → met f c t ≡ stepped c
+  step_on : (f : Option Found) → t < CN → f ≡ creature_at (creatures c) t → met f c t ≡ stepped c
   unfolding stepped
   step_on f h q = rw (d, ← e, lt-leb CN t h, ← q)
 
-  pub step-killed : (f : Found) {i n : ℕ} → t < CN → f ≡ creature_at (creatures c) t → f ≡ At i n → killed c ≡ stepped c
+  pub step-killed : (f : Option Found) {i n : ℕ} → t < CN → f ≡ creature_at (creatures c) t → f ≡ At i n → killed c ≡ stepped c
   unfolding met
   step-killed f h q a = rw a at (step_on f h q)
 
-  pub step_trailing : (f : Found) → t < CN → f ≡ creature_at (creatures c) t → f ≡ Nobody → c.trailing ≡ true → trailing_step c t ≡ stepped c
+  pub step_trailing : (f : Option Found) → t < CN → f ≡ creature_at (creatures c) t → f ≡ None → c.trailing ≡ true → trailing_step c t ≡ stepped c
   unfolding met
   step_trailing f h q a b = ap (λ (x : Bool). cond x (trailing_step c t) (walking_step c t)) (sym b) ∙ (rw a at (step_on f h q))
 
-  pub step_walking : (f : Found) → t < CN → f ≡ creature_at (creatures c) t → f ≡ Nobody → c.trailing ≡ false → walking_step c t ≡ stepped c
+  pub step_walking : (f : Option Found) → t < CN → f ≡ creature_at (creatures c) t → f ≡ None → c.trailing ≡ false → walking_step c t ≡ stepped c
   unfolding met
   step_walking f h q a b = ap (λ (x : Bool). cond x (trailing_step c t) (walking_step c t)) (sym b) ∙ (rw a at (step_on f h q))
 
@@ -50,11 +51,11 @@ module _ (c : Cutter) (d : no_direction c ≡ false) (t : ℕ) (e : t ≡ target
   unfolding closes advances
   closes-off h = rw (d, ← e, le-ltb t CN h)
 
-  pub closes-killed : (f : Found) {i n : ℕ} → t < CN → f ≡ creature_at (creatures c) t → f ≡ At i n → closes c ≡ false
+  pub closes-killed : (f : Option Found) {i n : ℕ} → t < CN → f ≡ creature_at (creatures c) t → f ≡ At i n → closes c ≡ false
   unfolding closes advances
   closes-killed f h q a = rw (d, ← e, lt-ltb t CN h, ← q, a)
 
-  pub closes_free : (f : Found) (b : Bool) → t < CN → f ≡ creature_at (creatures c) t → f ≡ Nobody → c.trailing ≡ b → closes c ≡ (b && claimed_at c.grid t)
+  pub closes_free : (f : Option Found) (b : Bool) → t < CN → f ≡ creature_at (creatures c) t → f ≡ None → c.trailing ≡ b → closes c ≡ (b && claimed_at c.grid t)
   unfolding closes advances
   closes_free f b h q a k = rw (d, ← e, lt-ltb t CN h, ← q, a, k)
 

@@ -1,4 +1,5 @@
 -- Who is at a cell, asked by its place, as the step asks it, and by x and y, as the question does: the same. Assumes nothing.
+use Rattle.std.specs.Prelude.{Option}
 use mathlib.Core.Bool.{Bool, true, cond, ◌&&◌}
 use mathlib.Core.List.{List, [], ◌∷◌}
 use mathlib.Core.Logic.{⊎_elim}
@@ -9,7 +10,7 @@ use lib.Dec.{eqb, ltb}
 use borrow.Author.Tests.{eq-eqb, ne_eqb, ltb-true}
 use Rattle.found.specs.First.{first_from, first}
 use Rattle.found.specs.declared.Found.{Found}
-use Rattle.found.specs.declared.Found.TheVariants.{At}
+use Rattle.found.specs.First.{At}
 use Rattle.laws.specs.Lists.{all, count}
 use Rattle.laws.proofs.Choice.{same?, and_left, and_right}
 use Rattle.laws.proofs.Filter.{count_ext}
@@ -41,7 +42,7 @@ module _ (x y : ℕ) (k : x < CW) where
       let t = at_place e (and_left (within e) (all within es) h) in
       let n = count_ext (is_at (place x y)) (stands_at x y) within at_place (e ∷ es) h in
       let r = from_place (i + 1) es (and_right (within e) (all within es) h) in
-      ap₂ (λ (b : Bool) (f : Found). cond b (At i (count (is_at (place x y)) (e ∷ es))) f) t r
+      ap₂ (λ (b : Bool) (f : Option Found). cond b (At i (count (is_at (place x y)) (e ∷ es))) f) t r
       ∙ ap (λ (m : ℕ). cond (stands_at x y e) (At i m) (first_from (stands_at x y) (i + 1) es)) n
 
   pub who-place : (es : List Mover) → all within es ≡ true → creature_at es (place x y) ≡ first (stands_at x y) es

@@ -1,7 +1,6 @@
 -- Block Cutter: the direction call, and the player's step.
-use Rattle.std.specs.Prelude.{Bool, true, false, cond, ◌&&◌, not, List, map, ℕ, zero, suc, ◌/◌, ◌%◌, eqb, leb, ltb, ℤ, pos, negsuc, set}
+use Rattle.std.specs.Prelude.{Bool, true, false, cond, ◌&&◌, not, List, map, ℕ, zero, suc, ◌/◌, ◌%◌, eqb, leb, ltb, ℤ, pos, negsuc, set, None, Option, Some}
 use Rattle.found.specs.declared.Found.{Found}
-use Rattle.found.specs.declared.Found.TheVariants.{At, Nobody}
 use Rattle.cutter_ground.specs.Cells.{CW, CN, CB_BLACK, CB_TRAIL, on_border, line_at, claimed_at, place}
 use Rattle.cutter_state.specs.declared.Cutter.{Cutter}
 use Rattle.cutter_state.specs.State.{creatures}
@@ -42,7 +41,7 @@ abbrev pub is_at : ℕ → Mover → Bool
 is_at at e = eqb (place_of e) at
 
 -- the first creature at a cell and how many are there, or nobody
-abbrev pub creature_at : List Mover → ℕ → Found
+abbrev pub creature_at : List Mover → ℕ → Option Found
 creature_at es at = first (is_at at) es
 
 abbrev pub no_direction : Cutter → Bool
@@ -92,9 +91,9 @@ walking_step c t =
     (with_trailing (laid c t) true)
 
 -- a creature there, dead
-unfoldable pub met : Found → Cutter → ℕ → Cutter
-met (At i n) c t = killed c
-met Nobody c t = cond c.trailing (trailing_step c t) (walking_step c t)
+unfoldable pub met : Option Found → Cutter → ℕ → Cutter
+met (Some f) c t = killed c
+met None c t = cond c.trailing (trailing_step c t) (walking_step c t)
 
 -- no direction, nothing; off the grid, the direction clears
 unfoldable pub stepped : Cutter → Cutter

@@ -6,7 +6,7 @@ use lib.ListN.{length}
 use borrow.Author.Tests.{eqb-true, leb-true, eq-eqb, le-leb}
 use Rattle.laws.specs.Lists.{all, any}
 use Rattle.laws.proofs.Choice.{and_left, and_right, and_three}
-use Rattle.refusal.specs.Refusal.{NONE}
+use Rattle.refusal.specs.Refusal.{number_given, NONE}
 use Rattle.refusal.proofs.Checks.{none_passes, passes_none}
 use Rattle.cutter_ground.specs.Cells.{CN}
 use Rattle.cutter_state.specs.declared.Cutter.{Cutter}
@@ -16,7 +16,7 @@ use Rattle.cutter_state.specs.WellFormed.{player_ok, mover_ok, is_blank, creatur
 use Rattle.cutter_state.proofs.Which.{fault_clear}
 use Rattle.cutter_ground.specs.Movers.{MAX_ENEMIES}
 
-none-well_formed : (c : Cutter) → (refusal_of c).number ≡ 0 → well_formed c ≡ true
+none-well_formed : (c : Cutter) → number_given (refusal_of c) ≡ 0 → well_formed c ≡ true
 unfolding refusal_of well_formed
 none-well_formed c e = rw (fault_clear c) at (none_passes (cells_ok c.grid c.trailing) (player_ok c) (creatures_fault c) (numbers_ok c) e)
 
@@ -65,7 +65,7 @@ facts c e =
     }
 
 -- a state that is not refused is well formed
-pub accepted : (c : Cutter) → (refusal_of c).number ≡ 0 → WellFormed c
+pub accepted : (c : Cutter) → number_given (refusal_of c) ≡ 0 → WellFormed c
 accepted c e = facts c (none-well_formed c e)
 
 pub from_facts : (c : Cutter) → WellFormed c → well_formed c ≡ true

@@ -1,6 +1,6 @@
 -- Signed numbers of eight bits: what a test of the bits that a local holds says of the number. Assumes nothing.
 use mathlib.Core.Bool.{Bool, true, false, ◌&&◌, ◌||◌}
-use mathlib.Core.Path.{◌≡◌, refl, sym, ◌∙◌, subst}
+use mathlib.Core.Path.{◌≡◌, refl, ap, subst}
 use Prim.Native.Nat.{ℕ, zero, suc, ◌+◌, ◌-◌, ◌<◌}
 use native.Mathlib.Omega.{arith}
 use lib.Dec.{eqb, leb}
@@ -10,6 +10,8 @@ use mir.Syntax.{w8}
 use mir.Val.{SFits, to_z, of_z}
 use mir.Facts.{to_z-of_z}
 use borrow.Author.Tests.{eqb-true, eqb-false, ne_eqb, lt-leb}
+use Rattle.std.specs.Ordering.{int_eq}
+use Rattle.std.proofs.lemmas.Bool.Decides.{Decides-int_eq, same_from_decides}
 use Rattle.cutter_state.specs.WellFormed.{is_zero, is_unit, direction_ok}
 
 -- a number comes back from its eight bits
@@ -24,9 +26,14 @@ module _ (v : ℤ) (f : SFits w8 v) where
   pub above : {b : Bool} → lt_z (pos 0) (to_z w8 (of_z w8 v)) ≡ b → lt_z (pos 0) v ≡ b
   above {b} e = subst (λ (z : ℤ). lt_z (pos 0) z ≡ b) (to_z-of_z f) e
 
-pub zero_bits : (v : ℤ) → SFits w8 v → eqb (of_z w8 v) 0 ≡ is_zero v
-zero_bits (pos n) f = refl
-zero_bits (negsuc n) f = let h : n < 128 = f.sfits in ne_eqb (256 - suc n) 0 (λ e. omega arith) ∙ sym (ne_eqb (suc n) 0 (λ e. omega arith))
+-- a number is 0: what `==` answers
+zero_at : (v : ℤ) → is_zero v ≡ true → v ≡ pos 0
+zero_at (pos zero) e = refl
+zero_at (pos (suc n)) e = absurd (omega (arith, eqb-true (suc n) 0 e))
+zero_at (negsuc n) e = absurd (omega (arith, eqb-true (suc n) 0 e))
+
+pub zero_eq : (v : ℤ) → int_eq v (pos 0) ≡ is_zero v
+zero_eq v = same_from_decides (int_eq v (pos 0)) (is_zero v) (Decides-int_eq v (pos 0)) (zero_at v, λ e. ap is_zero e)
 
 pub unit_bits : (v : ℤ) → SFits w8 v → (eqb (of_z w8 v) 1 || eqb (of_z w8 v) 255) ≡ is_unit v
 unit_bits (pos zero) f = refl

@@ -6,8 +6,7 @@ use Prim.Native.Nat.{ℕ, ◌<◌}
 use lib.Dec.{eqb}
 use lib.ListN.{take}
 use Rattle.laws.specs.Lists.{all}
-use Rattle.refusal.specs.declared.Refusal.{Refusal}
-use Rattle.refusal.specs.Refusal.{OFF_GRID, WRONG_CELL, HEADING, clear, unless, ◌then◌}
+use Rattle.refusal.specs.Refusal.{number_given, Checked, OFF_GRID, WRONG_CELL, HEADING, clear, unless, ◌then◌}
 use Rattle.refusal.specs.Faults.{first_fault}
 use Rattle.refusal.specs.InPlace.{is_cause}
 use Rattle.refusal.proofs.Checks.{in_place_of_3, cause_given}
@@ -22,7 +21,7 @@ use Rattle.cutter_state.specs.Which.{slot_at, RightTo, Tells, too_many, off_grid
 
 -- the three checks of a creature: where none fails, and which is the first that does
 module _ (i : ℕ) where
-  abbrev checks : Bool → Bool → Bool → Refusal
+  abbrev checks : Bool → Bool → Bool → Checked
   checks grid cell way = unless grid (OFF_GRID i) then unless cell (WRONG_CELL i) then unless way (HEADING i)
 
   checks_clear : (a b c d : Bool) → clear (checks a (a && b) (c && d)) ≡ (a && b && c && d)
@@ -32,7 +31,7 @@ module _ (i : ℕ) where
   checks_clear true true true false = refl
   checks_clear true true true true = refl
 
-  checks_given : (P : Refusal → Type 0) (a b c : Bool)
+  checks_given : (P : Checked → Type 0) (a b c : Bool)
       → (a ≡ false → P (OFF_GRID i)) → (a ≡ true → b ≡ false → P (WRONG_CELL i)) → (b ≡ true → c ≡ false → P (HEADING i))
       → clear (checks a b c) ≡ false → P (checks a b c)
   checks_given P false b c grid cell way e = grid refl
@@ -71,7 +70,7 @@ module _ (c : Cutter) where
       (λ h i l e. one_tells i l (sym (clear_to (take i c.enemies)) ∙ e))
       (λ h e i l k. spare i l k (sym (clear_to (creatures c)) ∙ e))
 
-tells_cause : {c : Cutter} {r : Refusal} → Tells c r → is_cause r.number ≡ true
+tells_cause : {c : Cutter} {r : Checked} → Tells c r → is_cause (number_given r) ≡ true
 tells_cause (too_many _) = refl
 tells_cause (off_grid _ _ _ _) = refl
 tells_cause (wrong_cell _ _ _ _ _) = refl

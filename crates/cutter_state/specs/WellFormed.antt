@@ -2,8 +2,7 @@
 use Rattle.std.specs.Prelude.{Bool, true, cond, ◌&&◌, List, ◌≡◌, ℕ, ◌+◌, ◌-◌, ◌≤◌, leb, eqb, ℤ, nat_abs, length}
 use Rattle.std.specs.Bool.{beq}
 use Rattle.laws.specs.Lists.{all, any, all_below}
-use Rattle.refusal.specs.declared.Refusal.{Refusal}
-use Rattle.refusal.specs.Refusal.{CELLS, PLAYER, OFF_GRID, WRONG_CELL, HEADING, NUMBERS, unless, ◌then◌}
+use Rattle.refusal.specs.Refusal.{Checked, CELLS, PLAYER, OFF_GRID, WRONG_CELL, HEADING, NUMBERS, unless, ◌then◌}
 use Rattle.refusal.specs.Faults.{fault_in}
 use Rattle.cutter_ground.specs.Cells.{CW, CH, CN, CB_BLACK, CB_FILLED, CB_TRAIL, place, on_grid, claimed_at}
 use Rattle.cutter_ground.specs.declared.Mover.{Mover}
@@ -81,14 +80,14 @@ creatures_ok c =
     && all is_blank (spare c)
 
 -- the same by creature, of the one in the slot i: off the grid, on a wrong cell, its velocity
-unfoldable pub creature_fault : List ℕ → ℕ → Mover → Refusal
+unfoldable pub creature_fault : List ℕ → ℕ → Mover → Checked
 creature_fault g i e =
     unless (on_grid e.x e.y) (OFF_GRID i)
     then unless (holds_at g CB_BLACK e.x e.y) (WRONG_CELL i)
     then unless (is_unit e.vx && is_unit e.vy) (HEADING i)
 
 -- too many first, then by creature, a slot past the count last
-unfoldable pub creatures_fault : Cutter → Refusal
+unfoldable pub creatures_fault : Cutter → Checked
 creatures_fault c = fault_in MAX_ENEMIES (creature_fault c.grid) is_blank c.enemies c.count
 
 -- ---- 4: lives or level
@@ -103,7 +102,7 @@ unfoldable pub well_formed : Cutter → Bool
 well_formed c = cells_ok c.grid c.trailing && player_ok c && creatures_ok c && numbers_ok c
 
 -- the refusal that a state gets: the first that applies, the creatures' fault in place of 3
-unfoldable pub refusal_of : Cutter → Refusal
+unfoldable pub refusal_of : Cutter → Checked
 refusal_of c =
     unless (cells_ok c.grid c.trailing) CELLS
     then unless (player_ok c) PLAYER

@@ -1,8 +1,7 @@
 -- Document 02 (ix), 'Which creature is wrong': what a state gets in place of 3, and what that says.
 use Rattle.std.specs.Prelude.{true, false, ◌&&◌, ◌≡◌, ℕ, ◌≤◌, ◌<◌, get_or, take, drop}
 use Rattle.laws.specs.Lists.{all}
-use Rattle.refusal.specs.declared.Refusal.{Refusal}
-use Rattle.refusal.specs.Refusal.{TOO_MANY, OFF_GRID, WRONG_CELL, HEADING, SPARE_SLOT}
+use Rattle.refusal.specs.Refusal.{number_given, Checked, TOO_MANY, OFF_GRID, WRONG_CELL, HEADING, SPARE_SLOT}
 use Rattle.refusal.specs.Faults.{room_for}
 use Rattle.refusal.specs.InPlace.{is_cause, before, InPlaceOf3}
 use Rattle.cutter_ground.specs.Cells.{CB_BLACK, on_grid}
@@ -21,7 +20,7 @@ abbrev pub RightTo : Cutter → ℕ → Type 0
 RightTo c i = all (mover_ok c.grid) (take i c.enemies) ≡ true
 
 -- what each number says of the creature or slot that it names, and of those before
-pub data Tells (c : Cutter) : Refusal → Type 0 where
+pub data Tells (c : Cutter) : Checked → Type 0 where
   too_many : room_for MAX_ENEMIES c.enemies c.count ≡ false → Tells c TOO_MANY
   off_grid : (i : ℕ) → i < c.count → RightTo c i → on_grid (slot_at c i).x (slot_at c i).y ≡ false → Tells c (OFF_GRID i)
   wrong_cell : (i : ℕ) → i < c.count → RightTo c i → on_grid (slot_at c i).x (slot_at c i).y ≡ true
@@ -34,4 +33,4 @@ pub data Tells (c : Cutter) : Refusal → Type 0 where
 -- a state gets a cause where it got 3, and the cause says what is wrong
 pub record Which (c : Cutter) : Type 0 where
   pub place : InPlaceOf3 (before (cells_ok c.grid c.trailing) (player_ok c) (creatures_ok c) (numbers_ok c)) (refusal_of c)
-  pub told : is_cause (refusal_of c).number ≡ true → Tells c (refusal_of c)
+  pub told : is_cause (number_given (refusal_of c)) ≡ true → Tells c (refusal_of c)

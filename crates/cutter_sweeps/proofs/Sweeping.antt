@@ -1,5 +1,5 @@
 -- A turn of the loop over the cells, and of the loop over the sweeps. Assumes nothing.
-use mathlib.Core.Path.{◌≡◌, refl, sym, ap, ap₂, subst, ◌∙◌}
+use mathlib.Core.Path.{◌≡◌, refl, sym, ap, subst, ◌∙◌}
 use mathlib.Core.Bool.{Bool, true, false, not, cond}
 use mathlib.Core.List.{List, [], ◌∷◌, zip_with}
 use Prim.Native.Nat.{ℕ, zero, suc, ◌+◌, ◌-◌, ◌≤◌, ◌<◌}
@@ -11,14 +11,13 @@ use lib.ListN.{length, get_or, set, length-set}
 use lib.Seq.{get_or-set_other}
 use Rattle.laws.specs.Lists.{across}
 use Rattle.laws.proofs.Folds.{across_turn, across_end}
-use Rattle.laws.proofs.Table.{length-table}
-use Rattle.cutter_ground.specs.Cells.{CN, cell_at, left_of, right_of, up_of, down_of}
+use Rattle.cutter_ground.specs.Cells.{CN}
 use Rattle.cutter_joined.specs.Joined.{Black}
 use Rattle.cutter_joined.proofs.Labels.{total}
-use Rattle.cutter_sweeps.specs.Sweeps.{own_of, owns, lower, low, lowered, sweep, Sweeps, begun, again}
+use Rattle.cutter_sweeps.specs.Sweeps.{owns, low, lowered, sweep, Sweeps, begun, again, Settled}
 use Rattle.cutter_sweeps.specs.Trainer.{changes}
-use Rattle.cutter_sweeps.specs.CodeTable.{Numbers, Swept}
-use Rattle.cutter_sweeps.proofs.Low.{low_le, lowered_in, lowered-same, total_set}
+use Rattle.cutter_sweeps.specs.CodeTable.{Numbers, Swept, Reached}
+use Rattle.cutter_sweeps.proofs.Low.{sweeps-low, low_le, lowered_in, lowered-same, total_set}
 
 changes-none : (l : List ℕ) → changes l l ≡ 0
 unfolding changes zip_with
@@ -95,12 +94,18 @@ module _ {g L₀ L : List ℕ} {n i : ℕ} (s : Sweeping g L₀ L n i) (inn : i 
 pub sweeping_end : {g L₀ L : List ℕ} {n i : ℕ} → Sweeping g L₀ L n i → CN ≤ i → Swept g L₀ L n
 sweeping_end {g} {L₀} {L} {n} {i} s h = record { is = across_end (lowered g) CN i L h s.left; len = s.len; many = s.many; same = s.same; falls = s.falls }
 
--- four numbers in a row, each with its neighbour
-pub low-is : (g L : List ℕ) (c a b d e v₁ v₂ v₃ v₄ v₀ : ℕ) → v₀ ≡ get_or L c CN → d ≡ down_of c → v₁ ≡ lower g L d v₀ → b ≡ up_of c → v₂ ≡ lower g L b v₁ →
-    e ≡ right_of c → v₃ ≡ lower g L e v₂ → a ≡ left_of c → v₄ ≡ lower g L a v₃ → v₄ ≡ low g L c
-unfolding low
-low-is g L c a b d e v₁ v₂ v₃ v₄ v₀ p₀ pd p₁ pb p₂ pe p₃ pa p₄ =
-    p₄ ∙ ap₂ (lower g L) pa (p₃ ∙ ap₂ (lower g L) pe (p₂ ∙ ap₂ (lower g L) pb (p₁ ∙ ap₂ (lower g L) pd p₀)))
+-- between two sweeps
+pub reached_start : {g L : List ℕ} → length g ≡ CN → L ≡ owns g → Reached g L
+reached_start {g} q e = record { cells = q; swept = subst (Sweeps g) (sym e) begun }
+
+pub reached_more : {g L M : List ℕ} {n : ℕ} → Reached g L → Swept g L M n → Reached g M
+reached_more {g} r w = record { cells = r.cells; swept = subst (Sweeps g) (sym w.is) (again r.swept) }
+
+pub reached_numbers : {g L : List ℕ} → Reached g L → Numbers g L
+reached_numbers r = record { cells = r.cells; len = (sweeps-low r.cells r.swept).len }
+
+pub reached_end : {g L M : List ℕ} {n : ℕ} → Reached g L → Swept g L M n → n ≡ 0 → Settled g M
+reached_end {g} r w e = record { reached = (reached_more r w).swept; still = ap (sweep g) (w.same e) ∙ sym w.is }
 
 -- between two sweeps, of which the last changed n cells
 pub record Settling (g L : List ℕ) (n : ℕ) : Type 0 where
@@ -110,10 +115,11 @@ pub record Settling (g L : List ℕ) (n : ℕ) : Type 0 where
   pub still : n ≡ 0 → sweep g L ≡ L
 
 pub settling_start : {g L : List ℕ} → length g ≡ CN → L ≡ owns g → Settling g L 1
-unfolding owns
-settling_start {g} {L} q e =
-    record { cells = q; len = ap length e ∙ length-table CN (λ c. own_of (cell_at g c) c); reached = subst (Sweeps g) (sym e) begun; still = λ z. absurd (omega arith) }
+settling_start q e =
+    let r = reached_start q e in
+    record { cells = q; len = (reached_numbers r).len; reached = r.swept; still = λ z. absurd (omega arith) }
 
 pub settling_more : {g L M : List ℕ} {n m : ℕ} → Settling g L n → Swept g L M m → Settling g M m
-settling_more {g} s w =
-    record { cells = s.cells; len = w.len; reached = subst (Sweeps g) (sym w.is) (again s.reached); still = λ e. ap (sweep g) (w.same e) ∙ sym w.is }
+settling_more {g} {L} s w =
+    let r : Reached g L = record { cells = s.cells; swept = s.reached } in
+    record { cells = s.cells; len = w.len; reached = (reached_more r w).swept; still = λ e. (reached_end r w e).still }

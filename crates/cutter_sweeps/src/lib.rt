@@ -6,7 +6,7 @@ ghost use Rattle.cutter_sweeps.specs.Sweeps.{own_of, owns, lower, low, Settled};
 ghost use Rattle.cutter_sweeps.specs.Trainer.{numbers_left};
 ghost use Rattle.cutter_sweeps.specs.CodeTable.{Numbers, Lowest, Swept, Reached};
 
-use cutter_ground::{CB_BLACK, CN};
+use cutter_ground::{CB_BLACK, CN, down_of, left_of, right_of, up_of};
 
 fn own(cell: u8, number: u16) -> u16
     ensures { result ≡ own_of cell number }
@@ -19,10 +19,8 @@ pub fn own_numbers(grid: &[u8; CN], nums: &mut [u16; CN])
     requires { Numbers grid.now nums.old }
     ensures { nums.new ≡ owns grid.now }
 {
-    let mut i: usize = 0;
-    while i < CN {
-        nums[i] = own(grid[i], i as u16);
-        i += 1;
+    for (i, number) in nums.iter_mut().enumerate() {
+        *number = own(grid[i], i as u16);
     }
 }
 
@@ -31,15 +29,11 @@ fn lower_by(grid: &[u8; CN], nums: &[u16; CN], d: usize, v: u16) -> u16
     requires { Numbers grid.now nums.now }
     ensures { result ≡ lower grid.now nums.now d v }
 {
-    if d < CN {
-        if grid[d] == CB_BLACK {
-            let n = nums[d];
-            if n < v {
-                return n;
-            }
-        }
+    if d < CN && grid[d] == CB_BLACK {
+        nums[d].min(v)
+    } else {
+        v
     }
-    v
 }
 
 // The least among a cell's own number and those of its black neighbours.
@@ -47,15 +41,10 @@ fn lowest(grid: &[u8; CN], nums: &[u16; CN], at: usize) -> u16
     requires { Lowest grid.now nums.now at }
     ensures { result ≡ low grid.now nums.now at }
 {
-    let v = nums[at];
-    let left = cutter_ground::left_of(at);
-    let right = cutter_ground::right_of(at);
-    let up = cutter_ground::up_of(at);
-    let down = cutter_ground::down_of(at);
-    let v1 = lower_by(grid, nums, down, v);
-    let v2 = lower_by(grid, nums, up, v1);
-    let v3 = lower_by(grid, nums, right, v2);
-    lower_by(grid, nums, left, v3)
+    let v = lower_by(grid, nums, down_of(at), nums[at]);
+    let v = lower_by(grid, nums, up_of(at), v);
+    let v = lower_by(grid, nums, right_of(at), v);
+    lower_by(grid, nums, left_of(at), v)
 }
 
 // One sweep over all cells, in place; how many cells changed.
@@ -64,8 +53,7 @@ pub fn sweep_once(grid: &[u8; CN], nums: &mut [u16; CN]) -> u16
     ensures { Swept grid.now nums.old nums.new result }
 {
     let mut changed: u16 = 0;
-    let mut at: usize = 0;
-    while at < CN {
+    for at in 0..CN {
         if grid[at] == CB_BLACK {
             let v = lowest(grid, nums, at);
             if v < nums[at] {
@@ -73,21 +61,18 @@ pub fn sweep_once(grid: &[u8; CN], nums: &mut [u16; CN]) -> u16
                 changed += 1;
             }
         }
-        at += 1;
     }
     changed
 }
 
 // Sweeps until a sweep changes nothing.
+#[tactic(auto, using(crate::proofs::Sweeping::reached_start, crate::proofs::Sweeping::reached_more, crate::proofs::Sweeping::reached_numbers, crate::proofs::Sweeping::reached_end))]
 pub fn settle(grid: &[u8; CN], nums: &mut [u16; CN])
     requires { Numbers grid.now nums.old }
     ensures { Settled grid.now nums.new }
 {
     own_numbers(grid, nums);
-    let mut changed: u16 = 1;
-    while 0 < changed {
-        changed = sweep_once(grid, nums);
-    }
+    while 0 < sweep_once(grid, nums) {}
 }
 
 // How many different numbers stand on black cells.
@@ -95,15 +80,13 @@ pub fn numbers_left(grid: &[u8; CN], nums: &[u16; CN]) -> u16
     requires { Reached grid.now nums.now }
     ensures { result ≡ numbers_left grid.now nums.now }
 {
-    let mut met = [0u8; CN];
+    let mut met = [false; CN];
     let mut n: u16 = 0;
-    let mut i: usize = CN;
-    while 0 < i {
-        i -= 1;
+    for i in (0..CN).rev() {
         if grid[i] == CB_BLACK {
             let v = nums[i] as usize;
-            if met[v] == 0 {
-                met[v] = 1;
+            if !met[v] {
+                met[v] = true;
                 n += 1;
             }
         }

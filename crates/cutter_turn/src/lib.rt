@@ -1,15 +1,17 @@
 // One turn of Block Cutter's loop: what is left of it when keys, clock, draws and record are numbers.
 #![tactic(auto)]
 
-ghost use Rattle.std.specs.Prelude.{cond, ◌≡◌, ◌-◌};
+ghost use Rattle.std.specs.Prelude.{cond, ◌≡◌, ◌≤◌};
+ghost use Rattle.controls.specs.Keys.{turned};
+ghost use Rattle.cutter_rules.specs.Step.{directed};
 ghost use Rattle.cutter_state.specs.WellFormed.{WellFormed};
 ghost use Rattle.cutter_rules.specs.Tick.{enemies_stepped};
-ghost use Rattle.cutter_turn.specs.CodeKeys.{is_way, Plays};
-ghost use Rattle.cutter_pass.specs.Pass.{keyed, played, scored, level_due, pass_refusal, hurt, next_level, costing, after_death, after_keys, pass_at};
+ghost use Rattle.cutter_turn.specs.CodeKeys.{Plays};
+ghost use Rattle.cutter_pass.specs.Pass.{played, scored, level_due, level_refusal, pass_refusal, hurt, next_level, costing, after_death, after_keys, pass_at};
 ghost use Rattle.cutter_pass.specs.CodePass.{NextLevel, step_if};
 
 use answer::Answer;
-use controls::{DOWN, KEY_DOWN, KEY_LEFT, KEY_QUIT, KEY_RIGHT, KEY_UP, LEFT, RIGHT, UP};
+use controls::{KEY_QUIT, dir_of};
 use cutter_check::check;
 use cutter_ground::black_count;
 use cutter_level::{creatures_of, draws_ok, new_level};
@@ -18,56 +20,56 @@ use cutter_pass::{CLEAR_BELOW, CUT_ENEMY_CYCLES, CUT_MOVE_CYCLES, CutterPassed, 
 use cutter_rules::Made;
 use cutter_state::{Cutter, MAX_LEVEL};
 use pace::both_ticks;
-use refusal::Refusal;
+use refusal::{Checked, Refusal};
 
+#[tactic(auto, unfolding(cutter_pass::specs::Pass::level_due))]
 fn level_due(c: Cutter) -> bool
     ensures { result ≡ level_due c }
 {
-    if c.dead {
-        return false;
+    !c.dead && c.won_level
+}
+
+// The draws of the level that is due.
+#[tactic(auto, unfolding(cutter_pass::specs::Pass::level_refusal))]
+fn level_refusal(c: Cutter, draws: &[u8]) -> Checked
+    requires { c.level ≤ MAX_LEVEL }
+    ensures { result ≡ level_refusal c draws.now }
+{
+    if c.level == MAX_LEVEL {
+        return Err(Refusal::LastLevel);
     }
-    c.won_level
+    if draws_ok(draws, creatures_of(c.level + 1)) {
+        return Ok(());
+    }
+    Err(Refusal::Draws)
 }
 
 // The state is checked once; draws are there only where a level starts.
-fn refusal_of(c: Cutter, draws: &[u8]) -> Refusal
+#[tactic(auto, unfolding(cutter_pass::specs::Pass::pass_refusal))]
+fn refusal_of(c: Cutter, draws: &[u8]) -> Checked
     ensures { result ≡ pass_refusal c draws.now }
 {
-    let no = check(c);
-    if no.number != refusal::NONE.number {
-        return no;
-    }
+    check(c)?;
     if level_due(c) {
-        if c.level == MAX_LEVEL {
-            return refusal::LAST_LEVEL;
-        }
-        if draws_ok(draws, creatures_of(c.level + 1)) {
-            return refusal::NONE;
-        }
-        return refusal::DRAWS;
+        return level_refusal(c, draws);
     }
-    if draws.len() == 0 {
-        return refusal::NONE;
+    if draws.is_empty() {
+        return Ok(());
     }
-    refusal::DRAWS
+    Err(Refusal::Draws)
 }
 
-fn one_less(lives: u32) -> u32
-    ensures { result ≡ lives - 1 }
-{
-    if 0 < lives { lives - 1 } else { 0 }
-}
-
+#[tactic(auto, unfolding(cutter_pass::specs::Pass::hurt))]
 fn lose_life(c: Cutter) -> Cutter
     ensures { result ≡ hurt c }
 {
-    let lives = one_less(c.lives);
     let mut out = c;
     out.dead = false;
-    out.lives = lives;
+    out.lives = c.lives.saturating_sub(1);
     out
 }
 
+#[tactic(auto, unfolding(cutter_pass::specs::Pass::next_level))]
 fn level_up(c: Cutter, draws: &[u8]) -> Cutter
     requires { NextLevel c draws.now }
     ensures { result ≡ next_level c draws.now }
@@ -78,57 +80,34 @@ fn level_up(c: Cutter, draws: &[u8]) -> Cutter
     new_level(out, draws)
 }
 
-// No key has this number.
-const NO_KEY: u8 = 0;
-
-fn press(c: Cutter, key: u8) -> Cutter
-    ensures { result ≡ keyed c key }
+fn press(c: Cutter, dir: Option<u8>) -> Cutter
+    ensures { result ≡ turned directed c dir }
 {
-    match key {
-        KEY_UP => direction(c, UP),
-        KEY_DOWN => direction(c, DOWN),
-        KEY_LEFT => direction(c, LEFT),
-        KEY_RIGHT => direction(c, RIGHT),
-        _ => c,
+    match dir {
+        Some(dir) => direction(c, dir),
+        None => c,
     }
 }
 
-// The last key that gives a direction, NO_KEY for none, and whether a key after it quit.
+// The direction of the last key that gives one, and whether a key after it quit.
 #[derive(Clone, Copy)]
 pub struct Pressed {
-    pub key: u8,
+    pub dir: Option<u8>,
     pub quit: bool,
-}
-
-fn is_way(key: u8) -> bool
-    ensures { result ≡ is_way key }
-{
-    (key == KEY_UP) | (key == KEY_DOWN) | (key == KEY_LEFT) | (key == KEY_RIGHT)
 }
 
 // All keys up to one that quits. Each direction replaces the one before, so the last is what is left of them.
 fn play(keys: &[u8]) -> Pressed
     ensures { Plays keys.now result }
 {
-    let mut last = NO_KEY;
-    let mut i: usize = 0;
-    while i < keys.len() {
-        let key = keys[i];
-        if key == KEY_QUIT {
-            return Pressed {
-                key: last,
-                quit: true,
-            };
+    let mut dir = None;
+    for key in keys {
+        if *key == KEY_QUIT {
+            return Pressed { dir, quit: true };
         }
-        i += 1;
-        if is_way(key) {
-            last = key;
-        }
+        dir = dir_of(*key).or(dir);
     }
-    Pressed {
-        key: last,
-        quit: false,
-    }
+    Pressed { dir, quit: false }
 }
 
 fn score(c: Cutter) -> Cutter
@@ -175,7 +154,7 @@ fn enemies_if(due: bool, c: Cutter) -> Cutter
 fn turn(
     first: u32,
     second: u32,
-    refusal: Refusal,
+    refusal: Checked,
     answer: Answer,
     game: Cutter,
     searched: u16,
@@ -183,17 +162,16 @@ fn turn(
 ) -> CutterTurn
     ensures { result ≡ costing first second refusal answer game searched walked }
 {
-    let passed = CutterPassed {
-        refusal: refusal,
-        answer: answer,
-        game: game,
-        searched: searched,
-        walked: walked,
-    };
     CutterTurn {
-        first: first,
-        second: second,
-        passed: passed,
+        first,
+        second,
+        passed: CutterPassed {
+            refusal,
+            answer,
+            game,
+            searched,
+            walked,
+        },
     }
 }
 
@@ -202,13 +180,13 @@ fn after_death(c: Cutter, first: u32, second: u32) -> CutterTurn
 {
     let out = lose_life(c);
     if out.lives == 0 {
-        return turn(first, second, refusal::NONE, Answer::Over, out, 0, 0);
+        return turn(first, second, Ok(()), Answer::Over, out, 0, 0);
     }
     let back = respawn(out);
     turn(
         first,
         second,
-        refusal::NONE,
+        Ok(()),
         Answer::GoingOn,
         back.game,
         0,
@@ -221,9 +199,9 @@ fn after_keys(c: Cutter, keys: &[u8], time: u32, first: u32, second: u32) -> Cut
     ensures { result ≡ after_keys first second time (played c keys.now) }
 {
     let pressed = play(keys);
-    let played = press(c, pressed.key);
+    let played = press(c, pressed.dir);
     if pressed.quit {
-        return turn(first, second, refusal::NONE, Answer::Quit, played, 0, 0);
+        return turn(first, second, Ok(()), Answer::Quit, played, 0, 0);
     }
     let due = both_ticks(time, first, second, CUT_MOVE_CYCLES, CUT_ENEMY_CYCLES);
     let made = step_if(due.one, played);
@@ -231,7 +209,7 @@ fn after_keys(c: Cutter, keys: &[u8], time: u32, first: u32, second: u32) -> Cut
     turn(
         due.first,
         due.second,
-        refusal::NONE,
+        Ok(()),
         Answer::GoingOn,
         game,
         made.searched,
@@ -249,16 +227,15 @@ pub fn pass_at(
 ) -> CutterTurn
     ensures { result ≡ pass_at c keys.now draws.now time first second }
 {
-    let no = refusal_of(c, draws);
-    if no.number != refusal::NONE.number {
-        return turn(first, second, no, Answer::GoingOn, c, 0, 0);
+    if let Err(no) = refusal_of(c, draws) {
+        return turn(first, second, Err(no), Answer::GoingOn, c, 0, 0);
     }
     if c.dead {
         return after_death(c, first, second);
     }
     if c.won_level {
         let next = level_up(c, draws);
-        return turn(first, second, refusal::NONE, Answer::GoingOn, next, 0, 0);
+        return turn(first, second, Ok(()), Answer::GoingOn, next, 0, 0);
     }
     after_keys(c, keys, time, first, second)
 }

@@ -11,7 +11,7 @@ pub returns : goal.returns
 returns c =
     let l = c.requires.0.cells in
     record {
-      cut = steps-closed ((labels c.args.grid.now).1 l) c.choose-best.ensures c.mark.ensures l c.claim_rest.new.grid c.retain-herd.result c.keep_of-keep.result
-          c.claim_rest.ensures c.keep_of-keep.ensures c.retain-herd.ensures;
+      cut = steps-closed ((labels c.args.grid.now).1 l) c.choose-best.ensures c.mark.ensures l c.claim_rest.new.grid c.retain-count.result c.mark-2.result
+          c.claim_rest.ensures c.mark-2.ensures c.retain-count.ensures;
       cost = c.choose-best.ensures.account;
     }

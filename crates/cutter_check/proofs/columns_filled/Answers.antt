@@ -7,5 +7,5 @@ use Rattle.cutter_check.proofs.columns_filled.Goals as goal
 pub returns : goal.returns
 unfolding columns_filled
 returns c =
-    let e : c.loop-y.y ≡ CH = omega (arith, c.loop-y.invariant.0, c.loop-y-test) in
-    rw e at c.loop-y.invariant.1
+    let e : c.loop-y.y ≡ CH = omega (arith, c.loop-y.auto.y-end, c.loop-y-test.false) in
+    rw e at c.loop-y.invariant

@@ -1,12 +1,9 @@
 use mathlib.Core.Path.{◌≡◌}
 use mathlib.Core.Bool.{◌&&◌}
-use Prim.Native.Nat.{◌≤◌, ◌-◌}
+use Prim.Native.Nat.{◌-◌}
 use Rattle.laws.specs.Lists.{all_below}
-use Rattle.cutter_ground.specs.Cells.{CW, CH, claimed_at, place}
+use Rattle.cutter_ground.specs.Cells.{CW, claimed_at, place}
 use Rattle.cutter_check.proofs.columns_filled.Given as goal
 
 abbrev pub invariant-loop-y : goal.invariant-loop-y
-invariant-loop-y l = (l.y ≤ CH) × (l.ok ≡ all_below l.y (λ y. claimed_at l.grid (place 0 y) && claimed_at l.grid (place (CW - 1) y)))
-
-abbrev pub decreases-loop-y : goal.decreases-loop-y
-decreases-loop-y l = CH - l.y
+invariant-loop-y l = l.ok ≡ all_below l.y (λ y. claimed_at l.grid (place 0 y) && claimed_at l.grid (place (CW - 1) y))

@@ -1,19 +1,20 @@
+use mathlib.Core.Path.{◌∙◌, ap}
+use Prim.Native.Nat.{◌+◌}
 use native.Mathlib.Omega.{arith}
+use lib.ListN.{drop}
 use Rattle.laws.proofs.Lists.{drop-one, drop_end}
-use Rattle.cutter_check.proofs.Codes.{largest-more, largest-same, largest_end}
+use Rattle.cutter_check.specs.CodePasses.{largest_of}
+use Rattle.cutter_check.proofs.Codes.{largest_more, largest_end}
 use Rattle.cutter_check.proofs.largest.Goals as goal
-use Rattle.cutter_check.proofs.largest.Goals.{else-most-grid, then-most-grid}
 
-pub loop-i-preserved : goal.loop-i-preserved
-loop-i-preserved c =
+pub loop-code-preserved : goal.loop-code-preserved
+loop-code-preserved c =
     let l = c.args.grid.now in
-    let h = drop-one l c.loop-i.i 0 (omega (arith, c.requires, c.loop-i-test)) in
-    elim c.if-most-grid.branch [
-      | then-most-grid w ↦ (omega arith, rw w.most-is (largest-more l c.loop-i.i c.loop-i.most h c.loop-i.invariant.1 w.if-most-grid.true))
-      | else-most-grid w ↦ (omega arith, rw w.most-is (largest-same l c.loop-i.i c.loop-i.most h c.loop-i.invariant.1 w.if-most-grid.false))
-    ]
+    let i = c.loop-code.code-index in
+    ap (λ n. largest_of n (drop (i + 1) l)) c.max-most.ensures
+    ∙ largest_more l i c.loop-code.most (drop-one l i 0 (omega (arith, c.requires, c.loop-code-test.true))) c.loop-code.invariant
 
 pub returns : goal.returns
 returns c =
     let l = c.args.grid.now in
-    largest_end l c.loop-i.i c.loop-i.most (drop_end l c.loop-i.i (omega (arith, c.requires, c.loop-i-test))) c.loop-i.invariant.1
+    largest_end l c.loop-code.code-index c.loop-code.most (drop_end l c.loop-code.code-index (omega (arith, c.requires, c.loop-code.auto.code-index-end, c.loop-code-test.false))) c.loop-code.invariant

@@ -7,5 +7,5 @@ use Rattle.cutter_check.proofs.rows_filled.Goals as goal
 pub returns : goal.returns
 unfolding rows_filled
 returns c =
-    let e : c.loop-x.x ≡ CW = omega (arith, c.loop-x.invariant.0, c.loop-x-test) in
-    rw e at c.loop-x.invariant.1
+    let e : c.loop-x.x ≡ CW = omega (arith, c.loop-x.auto.x-end, c.loop-x-test.false) in
+    rw e at c.loop-x.invariant

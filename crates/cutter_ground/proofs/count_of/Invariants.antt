@@ -1,12 +1,8 @@
 use mathlib.Core.Path.{◌≡◌}
-use Prim.Native.Nat.{◌+◌, ◌-◌, ◌≤◌}
+use Prim.Native.Nat.{◌+◌, ◌≤◌}
 use lib.ListN.{drop}
 use Rattle.laws.specs.Lists.{tally}
-use Rattle.cutter_ground.specs.Cells.{CN}
 use Rattle.cutter_ground.proofs.count_of.Given as goal
 
-abbrev pub invariant-loop-i : goal.invariant-loop-i
-invariant-loop-i l = (l.i ≤ CN) × (l.n ≤ l.i) × (l.n + tally l.kind (drop l.i l.grid) ≡ tally l.kind l.grid)
-
-abbrev pub decreases-loop-i : goal.decreases-loop-i
-decreases-loop-i l = CN - l.i
+abbrev pub invariant-loop-code : goal.invariant-loop-code
+invariant-loop-code l = (l.n ≤ l.code-index) × (l.n + tally l.kind (drop l.code-index l.grid) ≡ tally l.kind l.grid)

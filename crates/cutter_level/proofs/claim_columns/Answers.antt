@@ -8,4 +8,4 @@ use Rattle.cutter_level.proofs.claim_columns.Goals as goal
 pub loop-y-preserved : goal.loop-y-preserved
 unfolding claim_column
 loop-y-preserved c =
-    (omega arith, simp length-set c.loop-y.invariant.1, across-more claim_column CH c.loop-y.y c.loop-y.grid (omega arith) c.loop-y.invariant.2)
+    (simp length-set c.loop-y.invariant.0, across-more claim_column CH c.loop-y.y c.loop-y.grid (omega arith) c.loop-y.invariant.1)

@@ -1,6 +1,5 @@
 use mathlib.Core.List.{◌++◌}
 use mathlib.Core.Path.{◌≡◌}
-use Prim.Native.Nat.{◌≤◌, ◌-◌}
 use lib.ListN.{drop, replicate}
 use Rattle.laws.specs.Lists.{table}
 use Rattle.cutter_rules.specs.Level.{drawn_mover}
@@ -8,7 +7,4 @@ use Rattle.cutter_ground.specs.Movers.{MAX_ENEMIES, blank_slot}
 use Rattle.cutter_level.proofs.drawn_enemies.Given as goal
 
 abbrev pub invariant-loop-i : goal.invariant-loop-i
-invariant-loop-i l = (l.i ≤ l.n) × (l.out ≡ table l.i (drawn_mover l.draws) ++ drop l.i (replicate MAX_ENEMIES blank_slot))
-
-abbrev pub decreases-loop-i : goal.decreases-loop-i
-decreases-loop-i l = l.n - l.i
+invariant-loop-i l = l.out ≡ table l.i (drawn_mover l.draws) ++ drop l.i (replicate MAX_ENEMIES blank_slot)

@@ -6,24 +6,14 @@ use Rattle.cutter_level.proofs.drawn_mover.Goals as goal
 
 pub overflow_add-result : goal.overflow_add-result
 overflow_add-result c =
-    record { fits = omega (arith, c.draw_at-3.ensures, place-fits c.args.draws.now c.args.i c.requires.fit) }
+    record { fits = omega (arith, c.draw_at.ensures, place-fits c.args.draws.now c.args.i c.requires.fit) }
 
 pub overflow_add-result-2 : goal.overflow_add-result-2
 overflow_add-result-2 c =
-    record { fits = omega (arith, c.draw_at-4.ensures, place-fits c.args.draws.now c.args.i c.requires.fit) }
+    record { fits = omega (arith, c.draw_at-2.ensures, place-fits c.args.draws.now c.args.i c.requires.fit) }
 
 pub returns : goal.returns
 unfolding drawn_mover
 returns c =
-    simp (
-      kept c.velocity_of-vy.result c.velocity_of-vy.type_inv,
-      kept c.velocity_of-vx.result c.velocity_of-vx.type_inv,
-    )
-    (simp (
-      c.draw_at-4.ensures,
-      c.draw_at-3.ensures,
-      c.velocity_of-vy.ensures,
-      c.draw_at-2.ensures,
-      c.velocity_of-vx.ensures,
-      c.draw_at.ensures,
-    ))
+    simp (kept c.velocity_of-2.result c.velocity_of-2.type_inv, kept c.velocity_of.result c.velocity_of.type_inv)
+    (simp (c.velocity_of-2.ensures, c.draw_at-4.ensures, c.velocity_of.ensures, c.draw_at-3.ensures, c.draw_at-2.ensures, c.draw_at.ensures))

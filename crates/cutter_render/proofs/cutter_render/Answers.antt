@@ -13,7 +13,6 @@ draw_enemies-requires c =
     let w = c.requires.formed in
     record {
       framed = rw c.draw_ground.ensures (framed-pack _);
-      few = w.few;
       each = all_weaken (mover_ok c.args.c.grid) on_panel (holds_panel c.args.c.grid) (creatures c.args.c) w.each;
     }
 

@@ -6,10 +6,10 @@ use Rattle.cutter_picture.specs.Picture.{ground_lit}
 use Rattle.cutter_render.proofs.draw_ground.Goals as goal
 
 pub loop-p-init : goal.loop-p-init
-loop-p-init c = (omega arith, c.requires.whole, table_none _ _)
+loop-p-init c = table_none _ _
 
 pub returns : goal.returns
 unfolding pack
 returns c =
     let e : c.loop-p.p ≡ 8 = omega arith in
-    c.loop-p.invariant.2 ∙ rw e (table-whole 1024 (page_byte (ground_lit c.args.grid.now)) c.args.frame.now c.requires.whole)
+    c.loop-p.invariant ∙ rw e (table-whole 1024 (page_byte (ground_lit c.args.grid.now)) c.args.frame.now c.requires.whole)

@@ -5,10 +5,7 @@ use Rattle.cutter_render.proofs.Layers.{lives_more}
 use Rattle.cutter_render.proofs.draw_lives.Goals as goal
 
 pub put_paper-requires : goal.put_paper-requires
-put_paper-requires c = record { framed = rw c.loop-i.invariant.1 (framed-pack _); across = omega arith; down = omega arith }
+put_paper-requires c = record { framed = rw c.loop-i.invariant (framed-pack _); across = omega arith; down = omega arith }
 
 pub loop-i-preserved : goal.loop-i-preserved
-loop-i-preserved c =
-    let a = c.args in
-    let l = c.loop-i in
-    (omega arith, c.put_paper.ensures ∙ lives_more a.frame.now l.i l.frame l.invariant.1)
+loop-i-preserved c = c.put_paper.ensures ∙ lives_more c.args.frame.now c.loop-i.i c.loop-i.frame c.loop-i.invariant

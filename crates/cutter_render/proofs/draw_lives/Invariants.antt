@@ -1,12 +1,8 @@
 use mathlib.Core.Path.{◌≡◌}
 use mathlib.Core.Bool.{◌&&◌}
-use Prim.Native.Nat.{◌-◌, ◌≤◌}
 use Rattle.frame.specs.Frame.{pack, pixel}
 use Rattle.cutter_picture.specs.Picture.{no_life}
 use Rattle.cutter_render.proofs.draw_lives.Given as goal
 
 abbrev pub invariant-loop-i : goal.invariant-loop-i
-invariant-loop-i l = (l.i ≤ l.lives) × (l.frame ≡ pack (λ x y. pixel l.initial.frame x y && no_life l.i x y))
-
-abbrev pub decreases-loop-i : goal.decreases-loop-i
-decreases-loop-i l = l.lives - l.i
+invariant-loop-i l = l.frame ≡ pack (λ x y. pixel l.initial.frame x y && no_life l.i x y)

@@ -3,6 +3,3 @@ use Rattle.cutter_sweeps.proofs.numbers_left.Given as goal
 
 abbrev pub invariant-loop-i : goal.invariant-loop-i
 invariant-loop-i l = Telling l.grid l.nums l.met l.n l.i
-
-abbrev pub decreases-loop-i : goal.decreases-loop-i
-decreases-loop-i l = l.i

@@ -1,14 +1,10 @@
 use mathlib.Core.List.{◌++◌}
 use mathlib.Core.Path.{◌≡◌}
-use Prim.Native.Nat.{◌-◌, ◌≤◌}
-use lib.ListN.{length, drop}
+use lib.ListN.{drop}
 use Rattle.laws.specs.Lists.{table}
-use Rattle.cutter_ground.specs.Cells.{CN, cell_at}
+use Rattle.cutter_ground.specs.Cells.{cell_at}
 use Rattle.cutter_sweeps.specs.Sweeps.{own_of}
 use Rattle.cutter_sweeps.proofs.own_numbers.Given as goal
 
 abbrev pub invariant-loop-i : goal.invariant-loop-i
-invariant-loop-i l = (l.i ≤ CN) × (length l.nums ≡ CN) × (l.nums ≡ table l.i (λ c. own_of (cell_at l.grid c) c) ++ drop l.i l.initial.nums)
-
-abbrev pub decreases-loop-i : goal.decreases-loop-i
-decreases-loop-i l = CN - l.i
+invariant-loop-i l = l.nums ≡ table l.i (λ c. own_of (cell_at l.grid c) c) ++ drop l.i l.initial.nums

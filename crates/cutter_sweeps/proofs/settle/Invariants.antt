@@ -1,10 +1,9 @@
-use Prim.Native.Nat.{◌+◌}
 use Rattle.cutter_joined.proofs.Labels.{total}
-use Rattle.cutter_sweeps.proofs.Sweeping.{Settling}
+use Rattle.cutter_sweeps.specs.CodeTable.{Reached}
 use Rattle.cutter_sweeps.proofs.settle.Given as goal
 
-abbrev pub invariant-loop-changed : goal.invariant-loop-changed
-invariant-loop-changed l = Settling l.grid l.nums l.changed
+abbrev pub invariant-loop : goal.invariant-loop
+invariant-loop l = Reached l.grid l.nums
 
-abbrev pub decreases-loop-changed : goal.decreases-loop-changed
-decreases-loop-changed l = total l.nums + l.changed
+abbrev pub decreases-loop : goal.decreases-loop
+decreases-loop l = total l.nums

@@ -1,5 +1,4 @@
 use mathlib.Core.Path.{◌≡◌, sym, ◌∙◌}
-use Prim.Native.Nat.{◌<◌}
 use native.Mathlib.Omega.{arith}
 use lib.ListN.{get_or}
 use Rattle.laws.proofs.Lists.{get_or_default}
@@ -17,7 +16,7 @@ loop-at-preserved c =
     let L = c.loop-at.nums in
     let i = c.loop-at.at in
     let s = c.loop-at.invariant in
-    let h : i < CN = omega (arith, c.loop-at-test) in
+    let h = c.loop-at-test.true in
     let at : get_or L i 0 ≡ get_or L i CN = get_or_default L i 0 CN (omega (arith, s.len)) in
     let gat : get_or g i CB_FILLED ≡ get_or g i 0 = get_or_default g i CB_FILLED 0 (omega (arith, c.requires)) in
     elim c.if-grid-at-eq-CB_BLACK.branch [

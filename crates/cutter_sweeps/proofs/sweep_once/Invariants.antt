@@ -1,10 +1,5 @@
-use Prim.Native.Nat.{◌-◌}
-use Rattle.cutter_ground.specs.Cells.{CN}
 use Rattle.cutter_sweeps.proofs.Sweeping.{Sweeping}
 use Rattle.cutter_sweeps.proofs.sweep_once.Given as goal
 
 abbrev pub invariant-loop-at : goal.invariant-loop-at
 invariant-loop-at l = Sweeping l.grid l.initial.nums l.nums l.changed l.at
-
-abbrev pub decreases-loop-at : goal.decreases-loop-at
-decreases-loop-at l = CN - l.at

@@ -2,7 +2,7 @@ use mathlib.Core.Path.{◌≡◌, sym, ◌∙◌, ap, subst}
 use Rattle.cutter_state.specs.declared.Cutter.{Cutter}
 use Rattle.cutter_state.specs.WellFormed.{WellFormed}
 use Rattle.cutter_pass.specs.Pass.{played, after_keys}
-use Rattle.cutter_pass.proofs.Keys.{key_kept}
+use Rattle.cutter_pass.proofs.Keys.{turned_kept}
 use Rattle.cutter_pass.proofs.Kept.{moved-formed}
 use Rattle.cutter_pass.proofs.Answers.{after-quit, after_ticks}
 use Rattle.controls.specs.Keys.{Played}
@@ -17,11 +17,11 @@ returns-then-pressed c =
 
 pub step_if-made-requires : goal.step_if-made-requires
 step_if-made-requires c =
-    rw c.press-played.ensures (key_kept c.args.c c.play-pressed.result.key c.requires).formed
+    rw c.press-played.ensures (turned_kept c.args.c c.play-pressed.result.dir c.requires)
 
 pub enemies_if-game-requires : goal.enemies_if-game-requires
 enemies_if-game-requires c =
-    let w = subst WellFormed (sym c.press-played.ensures) (key_kept c.args.c c.play-pressed.result.key c.requires).formed in
+    let w = subst WellFormed (sym c.press-played.ensures) (turned_kept c.args.c c.play-pressed.result.dir c.requires) in
     rw c.step_if-made.ensures (moved-formed _ c.both_ticks-due.result.one w)
 
 pub returns : goal.returns

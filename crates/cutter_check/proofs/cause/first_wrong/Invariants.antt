@@ -1,5 +1,4 @@
 use mathlib.Core.Path.{◌≡◌}
-use Prim.Native.Nat.{◌-◌}
 use lib.ListN.{take, drop}
 use Rattle.refusal.specs.Faults.{first_fault}
 use Rattle.cutter_state.specs.WellFormed.{creature_fault}
@@ -7,6 +6,3 @@ use Rattle.cutter_check.proofs.cause.first_wrong.Given as goal
 
 abbrev pub invariant-loop-i : goal.invariant-loop-i
 invariant-loop-i l = first_fault (creature_fault l.grid) l.i (drop l.i (take l.count l.enemies)) ≡ first_fault (creature_fault l.grid) 0 (take l.count l.enemies)
-
-abbrev pub decreases-loop-i : goal.decreases-loop-i
-decreases-loop-i l = l.count - l.i

@@ -11,8 +11,8 @@ returns-then-is_clear c =
     let fx : SFits w8 c.args.e.vx = search rules in
     let fy : SFits w8 c.args.e.vy = search rules in
     let a = c.args in
-    roam_clear a.grid.now a.e c.look-v.result c.look-v.ensures.0 (sym c.is_clear.ensures ∙ c.if-is_clear.true) c.put-on.result
-    (simp (to_z-of_z fx, to_z-of_z fy) at c.put-on.ensures)
+    roam_clear a.grid.now a.e c.look-v.result c.look-v.ensures.0 (sym c.is_clear.ensures ∙ c.if-is_clear.true) c.put.result
+    (simp (to_z-of_z fx, to_z-of_z fy) at c.put.ensures)
 
 pub returns-then-is_line : goal.returns-then-is_line
 returns-then-is_line c =
@@ -22,4 +22,4 @@ returns-then-is_line c =
 pub returns : goal.returns
 returns c =
     let a = c.args in
-    roam_turned a.grid.now a.e c.look-v.result c.look-v.ensures.0 (sym c.is_line.ensures ∙ c.if-is_line.false) c.bounce-back.result c.bounce-back.ensures
+    roam_turned a.grid.now a.e c.look-v.result c.look-v.ensures.0 (sym c.is_line.ensures ∙ c.if-is_line.false) c.bounce.result c.bounce.ensures

@@ -29,7 +29,7 @@ unfolding at_start
 move_to_border-end-requires c =
     let l : length c.args.c.grid ≡ CN = search rules in
     record {
-      cells = ap length c.erase_line.ensures ∙ length-map c.at_start-out.result.grid line_erased ∙ ap (λ (k : Cutter). length k.grid) c.at_start-out.ensures ∙ l;
+      cells = ap length c.recode_line.ensures ∙ length-map c.at_start-out.result.grid line_erased ∙ ap (λ (k : Cutter). length k.grid) c.at_start-out.ensures ∙ l;
       inside = rw c.at_start-out.ensures (lit< tt);
     }
 
@@ -45,5 +45,5 @@ unfolding at_start respawned respawn_walked border_walked at_border
 returns c =
     let g = map line_erased c.args.c.grid in
     let start = entered (with_grid (at_start c.args.c) g) in
-    simp (c.move_to_border-end.ensures, c.erase_line.ensures, c.at_start-out.ensures)
+    simp (c.move_to_border-end.ensures, c.recode_line.ensures, c.at_start-out.ensures)
     (made-same (ap start (walk_at g 32 (lit< tt))) refl (walk_took g 32 (lit< tt)))
