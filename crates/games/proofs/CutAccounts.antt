@@ -5,7 +5,7 @@ use mathlib.Core.Path.{◌≡◌, refl, sym, ap, subst, ◌∙◌}
 use Prim.Native.Nat.{ℕ, zero, suc, ◌+◌}
 use native.Mathlib.Omega.{arith}
 use lib.ListN.{replicate}
-use Rattle.refusal.specs.Refusal.{DRAWS, unless, ◌then◌}
+use Rattle.refusal.specs.Refusal.{number_given, DRAWS, unless, ◌then◌}
 use Rattle.refusal.proofs.Calls.{answered_by}
 use Rattle.cutter_state.specs.declared.Cutter.{Cutter}
 use Rattle.cutter_state.specs.Change.{with_level, with_lives}
@@ -19,7 +19,7 @@ use Rattle.cutter_keeps.proofs.Direction.{direction-kept}
 use Rattle.cutter_keeps.proofs.Accounts.{step_accounts}
 use Rattle.cutter.specs.declared.calls.CutterAnswer.{CutterAnswer}
 use Rattle.cutter.specs.Calls.{refused, answered, zeros, FIRST_LEVEL, round_call, level_call}
-use Rattle.games.specs.CutterCalls.{Round, Level, Direction, Step, Play, called, after, goes_on, claims, loses}
+use Rattle.games.specs.CutterCalls.{Round, Level, Direction, Step, Play, called, after, goes_on}
 use Rattle.games.specs.Cases.{again, cut_down}
 use Rattle.games.specs.CutAccounts.{cut_calls, Account, CutAccounts}
 use Rattle.games.proofs.CutterCalls.{round-fresh, call_fresh, step-plays, direction-plays}
@@ -94,7 +94,7 @@ one = 9 ∷ 9 ∷ 1 ∷ 1 ∷ []
 abbrev start : Cutter
 start = with_lives (with_level zeros FIRST_LEVEL) MAX_LIVES
 
-pub one-goes : (round_call one).refusal.number ≡ 0
+pub one-goes : number_given (round_call one).refusal ≡ 0
 unfolding round_call draws_ok in_range
 one-goes = refl
 
@@ -136,7 +136,7 @@ by_p11 : (p : Play) → WellFormed p.game → p.game.level ≡ 2 → Account 930
 by_p11 p w l =
     let a = two-called p.game w l in
     let e = by_level p ∙ game a in
-    let f = subst Fresh (sym (by_level p)) (call_fresh p.game two (ap (λ (x : CutterAnswer). x.refusal.number) a)) in
+    let f = subst Fresh (sym (by_level p)) (call_fresh p.game two (ap (λ (x : CutterAnswer). number_given x.refusal) a)) in
     account (called p (Level two)).play p.game two e f 930 1 1 (Cut.p11 p.game 1 1 1 1 l).0 (Cut.p11-count p.game 1 1 1 1 l)
     (f.creatures ∙ ap (λ (s : Cutter). creatures_of s.level) e ∙ ap creatures_of (fresh-level p.game two ∙ l))
 

@@ -3,9 +3,10 @@ use mathlib.Core.Bool.{true, false, not, false≢true}
 use mathlib.Core.List.{List, [], ◌∷◌}
 use mathlib.Core.Path.{◌≡◌, sym, ap, subst, ◌∙◌}
 use Prim.Native.Nat.{ℕ, ◌+◌}
-use borrow.Author.Tests.{not-true, eqb-true}
+use borrow.Author.Tests.{not-true}
 use Rattle.laws.proofs.Choice.{and_left, and_right}
 use Rattle.refusal.proofs.Calls.{answered_by}
+use Rattle.refusal.proofs.Checks.{zero_of}
 use Rattle.cutter_state.specs.WellFormed.{WellFormed}
 use Rattle.cutter_keeps.specs.Kept.{Fresh}
 use Rattle.cutter_keeps.specs.Steps.{Accounts}
@@ -22,9 +23,9 @@ use Rattle.games.proofs.CutterCalls.{sweeps-formed, tick-formed, respawn-formed}
 called-fresh : (p : Play) (k : CutterCall) → (called p k).starts ≡ true → Fresh (called p k).play.game
 unfolding called
 called-fresh p (Round draws) e =
-    let z = eqb-true (round_call draws).refusal.number 0 e in
+    let z = zero_of (round_call draws).refusal e in
     subst Fresh (sym (answered_by (λ _. p.game) (round_call draws).game (round_call draws).refusal z)) (round-fresh draws z)
-called-fresh p (Level draws) e = call_fresh p.game draws (eqb-true (level_call p.game draws).refusal.number 0 e)
+called-fresh p (Level draws) e = call_fresh p.game draws (zero_of (level_call p.game draws).refusal e)
 called-fresh p (Direction dir) e = absurd (false≢true e)
 called-fresh p Step e = absurd (false≢true e)
 called-fresh p StepBySweeps e = absurd (false≢true e)

@@ -5,12 +5,13 @@ use mathlib.Core.List.{List}
 use mathlib.Core.Path.{◌≡◌, refl, sym, subst, ◌∙◌, ap}
 use Prim.Native.Nat.{ℕ}
 use native.Mathlib.Omega.{arith}
-use borrow.Author.Tests.{not-true, eqb-true, eq-eqb, ne_eqb}
+use borrow.Author.Tests.{not-true}
 use lib.Dec.{eqb, leb}
 use Rattle.laws.proofs.Choice.{cond_both, and_left, and_right}
-use Rattle.refusal.specs.declared.Refusal.{Refusal}
-use Rattle.refusal.specs.Refusal.{COMMAND, DRAWS, unless, ◌then◌, refused_or, clear}
+use Rattle.refusal.specs.Refusal.{number_given, Checked, COMMAND, DRAWS, unless, ◌then◌, refused_or, clear}
+use Rattle.refusal.specs.declared.Refusal.TheVariants.{Draws}
 use Rattle.refusal.proofs.Calls.{then_none, unless-none, answered_by, refused_or-answered}
+use Rattle.refusal.proofs.Checks.{clear_of, zero_of, unclear}
 use Rattle.answer.specs.declared.Answer.TheVariants.{GoingOn}
 use Rattle.cutter_state.specs.declared.Cutter.{Cutter}
 use Rattle.cutter_state.specs.Change.{with_level, with_lives}
@@ -41,33 +42,33 @@ use Rattle.controls.specs.Keys.{LEFT}
 
 -- ---- a fresh level
 
-pub round-fresh : (draws : List ℕ) → (round_call draws).refusal.number ≡ 0 → Fresh (round_call draws).game
+pub round-fresh : (draws : List ℕ) → number_given (round_call draws).refusal ≡ 0 → Fresh (round_call draws).game
 unfolding round_call
 round-fresh draws =
     let s : Cutter = with_lives (with_level zeros FIRST_LEVEL) MAX_LIVES in
     let ok : Bool = draws_ok draws (creatures_of FIRST_LEVEL) in
-    refused_or-answered (refused zeros) (answered (fresh_level s draws)) (λ (a : CutterAnswer). a.refusal.number ≡ 0 → Fresh a.game) (unless ok DRAWS)
+    refused_or-answered (refused zeros) (answered (fresh_level s draws)) (λ (a : CutterAnswer). number_given a.refusal ≡ 0 → Fresh a.game) (unless ok DRAWS)
     (λ some none. absurd (some none))
-    (λ e _. level-fresh s draws (omega arith) (omega arith) (omega arith) (unless-none ok DRAWS (omega arith) e))
+    (λ e _. level-fresh s draws (omega arith) (omega arith) (omega arith) (unless-none ok Draws e))
 
-pub call_fresh : (c : Cutter) (draws : List ℕ) → (level_call c draws).refusal.number ≡ 0 → Fresh (level_call c draws).game
+pub call_fresh : (c : Cutter) (draws : List ℕ) → number_given (level_call c draws).refusal ≡ 0 → Fresh (level_call c draws).game
 unfolding level_call
 call_fresh c draws =
     let ok : Bool = draws_ok draws (creatures_of c.level) in
-    refused_or-answered (refused c) (answered (fresh_level c draws)) (λ (a : CutterAnswer). a.refusal.number ≡ 0 → Fresh a.game) (refusal_of c then unless ok DRAWS)
+    refused_or-answered (refused c) (answered (fresh_level c draws)) (λ (a : CutterAnswer). number_given a.refusal ≡ 0 → Fresh a.game) (refusal_of c then unless ok DRAWS)
     (λ some none. absurd (some none))
     (λ e _.
     (let two = then_none (refusal_of c) (unless ok DRAWS) e in
     let w = accepted c two.0 in
-    level-fresh c draws w.lives w.level.0 w.level.1 (unless-none ok DRAWS (omega arith) two.1)))
+    level-fresh c draws w.lives w.level.0 w.level.1 (unless-none ok Draws two.1)))
 
 -- ---- a call that starts no level
 
 module _ (c : Cutter) (w : WellFormed c) where
   pub round-refused : (draws : List ℕ) → clear (round_call draws).refusal ≡ false → Kept c (refused_or (round_call draws).refusal (λ _. c) (round_call draws).game)
   round-refused draws e =
-      let n : Refusal = (round_call draws).refusal in
-      refused_or-answered (λ _. c) (round_call draws).game (Kept c) n (λ _. kept_self w) (λ z. absurd (false≢true (sym e ∙ eq-eqb n.number 0 z)))
+      let n : Checked = (round_call draws).refusal in
+      refused_or-answered (λ _. c) (round_call draws).game (Kept c) n (λ _. kept_self w) (λ z. absurd (false≢true (sym e ∙ clear_of n z)))
 
   pub level-refused : (draws : List ℕ) → clear (level_call c draws).refusal ≡ false → Kept c (level_call c draws).game
   unfolding level_call
@@ -87,7 +88,7 @@ module _ (c : Cutter) (w : WellFormed c) where
 
   -- a call that only the state can have refused
   plays : (a : CutterAnswer) → refused_or (refusal_of c) (refused c) a ≡ a
-  plays a = answered_by (refused c) a (refusal_of c) (ap (λ (r : Refusal). r.number) (well_formed-none c (from_facts c w)))
+  plays a = answered_by (refused c) a (refusal_of c) (ap number_given (well_formed-none c (from_facts c w)))
 
   pub step-plays : step_call c ≡ made (step_made c)
   unfolding step_call
@@ -125,7 +126,7 @@ abbrev goes : CutterTurn → Bool
 goes t = clear t.passed.refusal
 
 abbrev Goes : CutterTurn → Type 0
-Goes t = t.passed.refusal.number ≡ 0
+Goes t = number_given t.passed.refusal ≡ 0
 
 module _ (c : Cutter) (keys draws : List ℕ) (time first second : ℕ) where
   abbrev on : CutterTurn
@@ -141,8 +142,11 @@ module _ (c : Cutter) (keys draws : List ℕ) (time first second : ℕ) where
       cond_both Goes c.dead _ _ (λ _. cond_both Goes (eqb (hurt c).lives 0) _ _ (λ _. refl) (λ _. refl))
       (λ _. cond_both Goes c.won_level _ _ (λ _. refl) (λ _. cond_both Goes (played c keys).quit _ _ (λ _. refl) (λ _. refl)))
 
+  on_clear : goes on ≡ true
+  on_clear = clear_of on.passed.refusal on_none
+
   -- what holds of a pass refused by a number, and of one that goes on, holds of a pass
-  by_pass : (P : CutterTurn → Type 0) → ((n : Refusal) → (n.number ≡ 0 → ⊥) → P (still first second n GoingOn c)) → ((pass_refusal c draws).number ≡ 0 → P on) → P t
+  by_pass : (P : CutterTurn → Type 0) → ((n : Checked) → (number_given n ≡ 0 → ⊥) → P (still first second n GoingOn c)) → (number_given (pass_refusal c draws) ≡ 0 → P on) → P t
   unfolding pass_at
   by_pass P f g = refused_or-answered (λ n. still first second n GoingOn c) on P (pass_refusal c draws) (f (pass_refusal c draws)) g
 
@@ -152,10 +156,10 @@ module _ (c : Cutter) (keys draws : List ℕ) (time first second : ℕ) where
   pub pass-called : WellFormed c → (goes t && level_due c) ≡ false → Accounted t
   pass-called w =
       by_pass (λ (t : CutterTurn). (goes t && level_due c) ≡ false → Accounted t)
-      (λ n some _. rw (ne_eqb n.number 0 some) (kept_accounts (kept_self w)))
-      (λ _. rw on_none (pass_accounts first second c keys draws time w))
+      (λ n some _. rw (unclear n some) (kept_accounts (kept_self w)))
+      (λ _. rw on_clear (pass_accounts first second c keys draws time w))
 
-  on_fresh : (pass_refusal c draws).number ≡ 0 → level_due c ≡ true → Fresh on.passed.game
+  on_fresh : number_given (pass_refusal c draws) ≡ 0 → level_due c ≡ true → Fresh on.passed.game
   unfolding level_due
   on_fresh e due =
       let d = not-true c.dead (and_left (not c.dead) c.won_level due) in
@@ -165,8 +169,8 @@ module _ (c : Cutter) (keys draws : List ℕ) (time first second : ℕ) where
   pub pass-starts : (goes t && level_due c) ≡ true → Fresh t.passed.game
   pass-starts =
       by_pass (λ (t : CutterTurn). (goes t && level_due c) ≡ true → Fresh t.passed.game)
-      (λ n some e. absurd (some (eqb-true n.number 0 (and_left (clear n) (level_due c) e))))
-      (λ e. rw on_none (on_fresh e))
+      (λ n some e. absurd (some (zero_of n (and_left (clear n) (level_due c) e))))
+      (λ e. rw on_clear (on_fresh e))
 
   pub pass_at-formed_lem : Goes t → WellFormed t.passed.game
   pass_at-formed_lem =
@@ -175,14 +179,14 @@ module _ (c : Cutter) (keys draws : List ℕ) (time first second : ℕ) where
 -- ---- an answered state is well formed
 
 -- a call that answers with a where the number n is none
-call_formed : (c : Cutter) (a : CutterAnswer) (n : Refusal) → (n.number ≡ 0 → WellFormed a.game) → Formed (refused_or n (refused c) a)
+call_formed : (c : Cutter) (a : CutterAnswer) (n : Checked) → (number_given n ≡ 0 → WellFormed a.game) → Formed (refused_or n (refused c) a)
 call_formed c a n f = refused_or-answered (refused c) a Formed n (λ some none. absurd (some none)) (λ e _. f e)
 
 module _ (c : Cutter) where
   pub direction-formed : (dir : ℕ) → Formed (direction_call c dir)
   unfolding direction_call
   direction-formed dir =
-      let no : Refusal = unless (leb dir LEFT) COMMAND in
+      let no : Checked = unless (leb dir LEFT) COMMAND in
       call_formed c (answered (directed c dir)) (refusal_of c then no) (λ e. (direction-kept c dir (accepted c (then_none (refusal_of c) no e).0)).formed)
 
   pub step-formed : Formed (step_call c)

@@ -1,9 +1,10 @@
 -- Who is there, and how many. Assumes nothing.
+use Rattle.std.specs.Prelude.{None}
 use mathlib.Core.Path.{◌≡◌, refl}
 use borrow.Author.Tests.{eq-eqb}
 use Rattle.laws.specs.Lists.{table}
 use Rattle.found.proofs.First.{number-count, nobody_zero}
-use Rattle.found.specs.declared.Found.TheVariants.{At, Nobody}
+use Rattle.found.specs.First.{At}
 use Rattle.mine_state.specs.State as Mine
 use Rattle.mine_state.proofs.Alone.{alone}
 use Rattle.cutter_ground.specs.Movers as Cutter
@@ -17,7 +18,7 @@ three : (c : Cutter) → c.level ≡ 4 → who_at (creatures (fresh_level c four
 unfolding table velocity drawn_mover fresh_level
 three c e = rw e
 
-elsewhere : (c : Cutter) → c.level ≡ 4 → who_at (creatures (fresh_level c four_draws)) 11 10 ≡ Nobody
+elsewhere : (c : Cutter) → c.level ≡ 4 → who_at (creatures (fresh_level c four_draws)) 11 10 ≡ None
 unfolding table velocity drawn_mover fresh_level
 elsewhere c e = rw e
 

@@ -4,9 +4,8 @@ use mathlib.Core.Path.{◌≡◌, refl, sym, ap, subst, ◌∙◌}
 use Prim.Native.Nat.{ℕ}
 use native.Mathlib.Omega.{arith}
 use lib.Dec.{leb}
-use Rattle.refusal.specs.declared.Refusal.{Refusal}
 use Rattle.refusal.specs.Faults.{first_fault, fault_in}
-use Rattle.refusal.specs.Refusal.{NONE, COMMAND, unless, ◌then◌}
+use Rattle.refusal.specs.Refusal.{number_given, NONE, COMMAND, unless, ◌then◌}
 use Rattle.refusal.proofs.Calls.{then_second, answered_by}
 use Rattle.mine_state.specs.declared.Mine.{Mine}
 use Rattle.mine_state.specs.State.{purse, empty_at, free_at}
@@ -38,16 +37,16 @@ use Rattle.cutter_state.specs.State.{claimed_in}
 use Rattle.controls.specs.Keys.{RIGHT, DOWN, LEFT}
 
 -- to the right where the state is not refused
-goes : (m : Mine) → (refusal_of m).number ≡ 0 → move_call m RIGHT ≡ answered (moved m RIGHT)
+goes : (m : Mine) → number_given (refusal_of m) ≡ 0 → move_call m RIGHT ≡ answered (moved m RIGHT)
 unfolding move_call
 goes m e =
     answered_by (refused m) (answered (moved m RIGHT)) (refusal_of m then unless (leb RIGHT LEFT) COMMAND)
-    (ap (λ (r : Refusal). r.number) (then_second (refusal_of m) NONE e))
+    (ap number_given (then_second (refusal_of m) NONE e))
 
 -- the first and the second step to the right
 record Steps (m : Mine) : Type 0 where
-  first : (refusal_of m).number ≡ 0
-  second : (refusal_of (moved m RIGHT)).number ≡ 0
+  first : number_given (refusal_of m) ≡ 0
+  second : number_given (refusal_of (moved m RIGHT)) ≡ 0
   from : m.px ≡ 1
   one : (moved m RIGHT).px ≡ 2
   two : (moved (moved m RIGHT) RIGHT).px ≡ 3
@@ -87,7 +86,7 @@ module _ (port : Mine → ℕ → MineAnswer) (kept : (m : Mine) (dir : ℕ) →
   wrong_move : WrongMove port
   wrong_move =
       record {
-        refuses_always = λ h. h loaded RIGHT (ap (λ (a : MineAnswer). a.refusal.number) once);
+        refuses_always = λ h. h loaded RIGHT (ap (λ (a : MineAnswer). number_given a.refusal) once);
         loaded_always = λ h. stays (sym (game once) ∙ h loaded RIGHT);
         does_nothing = λ h. stays (sym (game once) ∙ h loaded RIGHT);
         idles_then = λ h. idles (sym (game twice) ∙ ap (λ (m : Mine). (port m RIGHT).game) (sym (game once)) ∙ h loaded RIGHT RIGHT ∙ game once);
@@ -142,7 +141,7 @@ module _ (port : Cutter → CutterAnswer) (kept : (c : Cutter) → port c ≡ st
   wrong_step : WrongStep port
   wrong_step =
       record {
-        refuses_always = λ h. h down (ap (λ (a : CutterAnswer). a.refusal.number) first_step);
+        refuses_always = λ h. h down (ap (λ (a : CutterAnswer). number_given a.refusal) first_step);
         one_state_always = λ s h. idles_down (sym (stands second-step) ∙ h (stepped down) ∙ sym (h down) ∙ stands first_step);
         does_nothing = λ h. stays-down (sym (stands first_step) ∙ h down);
         idles_then = λ h. idles_down (sym (stands second-step) ∙ ap (λ (c : Cutter). (port c).game) (sym (stands first_step)) ∙ h down ∙ stands first_step);

@@ -1,4 +1,5 @@
 -- Block Cutter's accounts: claimed cells and creatures over any list of public calls, with any arguments, refused ones too, none starting a level.
+use Rattle.refusal.specs.Refusal.{number_given}
 use Rattle.std.specs.Prelude.{true, List, ◌≡◌, ℕ, ◌+◌}
 use Rattle.pace.specs.declared.Pace.{Pace}
 use Rattle.cutter_state.specs.declared.Cutter.{Cutter}
@@ -25,7 +26,7 @@ pub record CutterAccounts : Type 0 where
 
 -- every state given without a refusal is well formed, whatever state came
 abbrev pub Formed : CutterAnswer → Type 0
-Formed a = a.refusal.number ≡ 0 → WellFormed a.game
+Formed a = number_given a.refusal ≡ 0 → WellFormed a.game
 
 pub record CutterFormed : Type 0 where
   pub round : (draws : List ℕ) → Formed (round_call draws)
@@ -36,6 +37,6 @@ pub record CutterFormed : Type 0 where
   pub tick : (c : Cutter) → Formed (enemies_call c)
   pub respawn : (c : Cutter) → Formed (respawn_call c)
   pub pass : (c : Cutter) (keys draws : List ℕ) (time : ℕ) (pace : Pace)
-      → (pass_of c keys draws time pace).0.refusal.number ≡ 0 → WellFormed (pass_of c keys draws time pace).0.game
-  pub pass_marks : (c : Cutter) (keys draws : List ℕ) (time first second : ℕ) → (pass_at c keys draws time first second).passed.refusal.number ≡ 0
+      → number_given (pass_of c keys draws time pace).0.refusal ≡ 0 → WellFormed (pass_of c keys draws time pace).0.game
+  pub pass_marks : (c : Cutter) (keys draws : List ℕ) (time first second : ℕ) → number_given (pass_at c keys draws time first second).passed.refusal ≡ 0
       → WellFormed (pass_at c keys draws time first second).passed.game

@@ -1,7 +1,6 @@
 -- Every public call of Block Cutter with its arguments: the state and record after any list of them, and what their closings did.
-use Rattle.std.specs.Prelude.{Bool, true, false, cond, not, ◌&&◌, List, [], ◌∷◌, ℕ, ◌+◌, eqb}
-use Rattle.refusal.specs.declared.Refusal.{Refusal}
-use Rattle.refusal.specs.Refusal.{refused_or, clear}
+use Rattle.std.specs.Prelude.{Bool, true, false, cond, not, ◌&&◌, List, [], ◌∷◌, ℕ, ◌+◌}
+use Rattle.refusal.specs.Refusal.{Checked, refused_or, clear}
 use Rattle.pace.specs.declared.Pace.{Pace}
 use Rattle.pace.specs.Pace.{started}
 use Rattle.cutter_ground.specs.declared.Mover.{Mover}
@@ -46,7 +45,7 @@ module _ (p : Play) where
   playing s = record { game = s; pace = p.pace }
 
   -- it starts a level where it is not refused
-  abbrev pub starting : Refusal → Cutter → Outcome
+  abbrev pub starting : Checked → Cutter → Outcome
   starting refusal s = record { play = playing s; starts = clear refusal; claims = 0; loses = 0 }
 
   -- a step that is not refused has its closing

@@ -1,4 +1,5 @@
 -- Block Mine's accounts: coins and boulders over any list of public calls, with any arguments, refused ones too.
+use Rattle.refusal.specs.Refusal.{number_given}
 use Rattle.std.specs.Prelude.{true, List, ◌≡◌, ℕ}
 use Rattle.laws.specs.Lists.{all}
 use Rattle.pace.specs.declared.Pace.{Pace}
@@ -27,9 +28,9 @@ pub record MineAccounts : Type 0 where
 -- every state given without a refusal is well formed, whatever state came
 pub record MineFormed : Type 0 where
   pub load : WellFormed loaded
-  pub move : (m : Mine) (dir : ℕ) → (move_call m dir).refusal.number ≡ 0 → WellFormed (move_call m dir).game
-  pub gravity : (m : Mine) → (gravity_call m).refusal.number ≡ 0 → WellFormed (gravity_call m).game
-  pub tick : (m : Mine) → (tick_call m).refusal.number ≡ 0 → WellFormed (tick_call m).game
-  pub pass : (m : Mine) (keys : List ℕ) (time : ℕ) (pace : Pace) → (pass_of m keys time pace).0.refusal.number ≡ 0 → WellFormed (pass_of m keys time pace).0.game
-  pub pass_marks : (m : Mine) (keys : List ℕ) (time first second : ℕ) → (pass_at m keys time first second).passed.refusal.number ≡ 0
+  pub move : (m : Mine) (dir : ℕ) → number_given (move_call m dir).refusal ≡ 0 → WellFormed (move_call m dir).game
+  pub gravity : (m : Mine) → number_given (gravity_call m).refusal ≡ 0 → WellFormed (gravity_call m).game
+  pub tick : (m : Mine) → number_given (tick_call m).refusal ≡ 0 → WellFormed (tick_call m).game
+  pub pass : (m : Mine) (keys : List ℕ) (time : ℕ) (pace : Pace) → number_given (pass_of m keys time pace).0.refusal ≡ 0 → WellFormed (pass_of m keys time pace).0.game
+  pub pass_marks : (m : Mine) (keys : List ℕ) (time first second : ℕ) → number_given (pass_at m keys time first second).passed.refusal ≡ 0
       → WellFormed (pass_at m keys time first second).passed.game

@@ -1,8 +1,8 @@
 -- Document 02 (iii): who is there, and how many.
-use Rattle.std.specs.Prelude.{List, [], ◌∷◌, ◌≡◌, ℕ, eqb}
+use Rattle.std.specs.Prelude.{List, [], ◌∷◌, ◌≡◌, ℕ, eqb, None}
 use Rattle.laws.specs.Lists.{count}
 use Rattle.found.specs.First.{nobody, number}
-use Rattle.found.specs.declared.Found.TheVariants.{At, Nobody}
+use Rattle.found.specs.First.{At}
 use Rattle.mine_state.specs.State as Mine
 use Rattle.mine_state.specs.WellFormed.{Alone}
 use Rattle.mine_state.specs.declared.Enemy.{Enemy}
@@ -31,4 +31,4 @@ pub record Several : Type 0 where
   pub twice : (e : Enemy) → MineQuestion.who_at (e ∷ e ∷ []) e.x e.y ≡ At 0 2
   -- in Cutter several share a cell: a fresh level of four creatures, three of them at (10,10)
   pub three : (c : Cutter) → c.level ≡ 4 → CutterQuestion.who_at (creatures (fresh_level c four_draws)) 10 10 ≡ At 1 3
-  pub elsewhere : (c : Cutter) → c.level ≡ 4 → CutterQuestion.who_at (creatures (fresh_level c four_draws)) 11 10 ≡ Nobody
+  pub elsewhere : (c : Cutter) → c.level ≡ 4 → CutterQuestion.who_at (creatures (fresh_level c four_draws)) 11 10 ≡ None

@@ -1,4 +1,5 @@
 -- Ports that break the promises, shown on Block Mine's move and Block Cutter's step.
+use Rattle.refusal.specs.Refusal.{number_given}
 use Rattle.std.specs.Prelude.{◌≡◌, ℕ, ◌+◌}
 use Rattle.mine_state.specs.declared.Mine.{Mine}
 use Rattle.mine_state.specs.State.{purse}
@@ -15,7 +16,7 @@ use Rattle.cutter_state.specs.State.{claimed_in}
 
 -- no port of the move that keeps the promise does one of these
 pub record WrongMove (port : Mine → ℕ → MineAnswer) : Type 0 where
-  pub refuses_always : ((m : Mine) (dir : ℕ) → (port m dir).refusal.number ≡ 0 → ⊥) → ⊥
+  pub refuses_always : ((m : Mine) (dir : ℕ) → number_given (port m dir).refusal ≡ 0 → ⊥) → ⊥
   pub loaded_always : ((m : Mine) (dir : ℕ) → (port m dir).game ≡ loaded) → ⊥
   pub does_nothing : ((m : Mine) (dir : ℕ) → (port m dir).game ≡ m) → ⊥
   -- plays a first call and idles at the second
@@ -26,7 +27,7 @@ pub record WrongMove (port : Mine → ℕ → MineAnswer) : Type 0 where
 
 -- and none of the step
 pub record WrongStep (port : Cutter → CutterAnswer) : Type 0 where
-  pub refuses_always : ((c : Cutter) → (port c).refusal.number ≡ 0 → ⊥) → ⊥
+  pub refuses_always : ((c : Cutter) → number_given (port c).refusal ≡ 0 → ⊥) → ⊥
   pub one_state_always : (s : Cutter) → ((c : Cutter) → (port c).game ≡ s) → ⊥
   pub does_nothing : ((c : Cutter) → (port c).game ≡ c) → ⊥
   pub idles_then : ((c : Cutter) → (port (port c).game).game ≡ (port c).game) → ⊥
