@@ -14,65 +14,40 @@ const NAP: i64 = 5_000_000;
 // Bytes of a turn at most.
 const KEYS: usize = 64;
 
-#[derive(Clone, Copy)]
-struct Heard {
-    count: usize,
-    ended: bool,
-}
-
-// What a game at the terminal carries from turn to turn.
-#[derive(Clone, Copy)]
-struct Mining {
-    play: MinePlay,
-    waits: u8,
-    ended: bool,
-}
-
-#[derive(Clone, Copy)]
-struct Cutting {
-    play: CutterPlay,
-    waits: u8,
-    ended: bool,
-}
-
-// The bytes that are there. Where there are none, a terminal may have some later; other input has ended.
-fn listen(rt: &(impl Input + Eprint), terminal: bool, bytes: &mut [u8]) -> Heard {
+// The bytes that are there. Where there are none, a terminal may have some later; other input has
+// ended, which gives None.
+fn listen(rt: &(impl Input + Eprint), terminal: bool, bytes: &mut [u8]) -> Option<usize> {
     let mut reader = rt.reader();
     let got = reader.read(bytes);
-    let count = got.unwrap_or(0);
     if streams::read_failed(rt, &got) {
-        return Heard { count, ended: true };
+        return None;
     }
-    if count == 0 {
-        return Heard {
-            count,
-            ended: !terminal,
-        };
+    let count = got.unwrap_or(0);
+    if count == 0 && !terminal {
+        return None;
     }
-    Heard {
-        count,
-        ended: false,
-    }
+    Some(count)
 }
 
-fn mine_step(rt: &(impl Input + Eprint + Clock), m: Mining, terminal: bool) -> Mining {
+// What a game at the terminal carries from turn to turn: its play, and what the bytes before left open.
+#[derive(Clone, Copy)]
+struct Turned<P> {
+    play: P,
+    waits: u8,
+}
+
+fn mine_step(
+    rt: &(impl Input + Eprint + Clock),
+    m: Turned<MinePlay>,
+    terminal: bool,
+) -> Option<Turned<MinePlay>> {
     let mut bytes = [0u8; KEYS];
-    let input = listen(rt, terminal, &mut bytes);
-    if input.ended {
-        let mut last = m;
-        last.ended = true;
-        return last;
-    }
-    let n = within(input.count, &bytes);
+    let count = listen(rt, terminal, &mut bytes)?;
+    let n = within(count, &bytes);
     let pressed = &mut bytes[..n];
     let waits = console_keys::hear(m.waits, pressed);
-    let before = m.play;
-    let play = console_turns::mine_turn(before, pressed, console_clock::reading(rt));
-    Mining {
-        play,
-        waits,
-        ended: play.stands == QUIT,
-    }
+    let play = console_turns::mine_turn(m.play, pressed, console_clock::reading(rt));
+    Some(Turned { play, waits })
 }
 
 fn tell_spent(rt: &(impl Print + Eprint)) {
@@ -80,26 +55,21 @@ fn tell_spent(rt: &(impl Print + Eprint)) {
 }
 
 pub fn play_mine(rt: &(impl Input + Print + Eprint + Clock), terminal: bool) {
-    let start = console_turns::mine_start(console_clock::reading(rt));
-    let mut m = Mining {
-        play: start,
+    let mut m = Turned {
+        play: console_turns::mine_start(console_clock::reading(rt)),
         waits: console_keys::PLAIN,
-        ended: false,
     };
-    let mut shown = console_screens::mine_screen(start);
+    let mut shown = console_screens::mine_screen(m.play);
     if !console_screens::begin(rt, shown) {
         return;
     }
-    let mut turn: u32 = 0;
-    while turn < TURNS {
-        turn += 1;
-        m = mine_step(rt, m, terminal);
-        let play = m.play;
-        let screen = console_screens::mine_screen(play);
-        if !console_screens::refresh(rt, screen, shown) {
+    for _ in 0..TURNS {
+        let Some(next) = mine_step(rt, m, terminal) else {
             return;
-        }
-        if m.ended {
+        };
+        m = next;
+        let screen = console_screens::mine_screen(m.play);
+        if !console_screens::refresh(rt, screen, shown) || m.play.stands == QUIT {
             return;
         }
         shown = screen;
@@ -111,11 +81,9 @@ pub fn play_mine(rt: &(impl Input + Print + Eprint + Clock), terminal: bool) {
 // As many draws as a call can take: of the word, or of the system's random bytes.
 fn drawn(rt: &impl RandomSource, fixed: bool, word: [u8; MOST_DRAWS]) -> [u8; MOST_DRAWS] {
     let mut bytes = word;
-    if fixed {
-        console_turns::to_draws(&mut bytes);
-        return bytes;
+    if !fixed {
+        let _ = rt.fill_bytes(&mut bytes);
     }
-    let _ = rt.fill_bytes(&mut bytes);
     console_turns::to_draws(&mut bytes);
     bytes
 }
@@ -127,28 +95,18 @@ fn cutter_begin(rt: &impl Clock, draws: [u8; MOST_DRAWS]) -> CutterPlay {
 
 fn cutter_step(
     rt: &(impl Input + Eprint + Clock),
-    c: Cutting,
+    c: Turned<CutterPlay>,
     terminal: bool,
     draws: [u8; MOST_DRAWS],
-) -> Cutting {
+) -> Option<Turned<CutterPlay>> {
     let mut bytes = [0u8; KEYS];
-    let input = listen(rt, terminal, &mut bytes);
-    if input.ended {
-        let mut last = c;
-        last.ended = true;
-        return last;
-    }
-    let n = within(input.count, &bytes);
+    let count = listen(rt, terminal, &mut bytes)?;
+    let n = within(count, &bytes);
     let pressed = &mut bytes[..n];
     let waits = console_keys::hear(c.waits, pressed);
-    let before = c.play;
-    let k = within(console_turns::cutter_draws(before), &draws);
-    let play = console_turns::cutter_turn(before, pressed, &draws[..k], console_clock::reading(rt));
-    Cutting {
-        play,
-        waits,
-        ended: play.stands == QUIT,
-    }
+    let k = within(console_turns::cutter_draws(c.play), &draws);
+    let play = console_turns::cutter_turn(c.play, pressed, &draws[..k], console_clock::reading(rt));
+    Some(Turned { play, waits })
 }
 
 // The draws of the next turn, made anew where it takes any.
@@ -170,27 +128,22 @@ pub fn play_cutter(
     fixed: bool,
     word: [u8; MOST_DRAWS],
 ) {
-    let start = cutter_begin(rt, drawn(rt, fixed, word));
-    let mut c = Cutting {
-        play: start,
+    let mut c = Turned {
+        play: cutter_begin(rt, drawn(rt, fixed, word)),
         waits: console_keys::PLAIN,
-        ended: false,
     };
-    let mut shown = console_screens::cutter_screen(start);
+    let mut shown = console_screens::cutter_screen(c.play);
     if !console_screens::begin(rt, shown) {
         return;
     }
-    let mut turn: u32 = 0;
-    while turn < TURNS {
-        turn += 1;
-        let before = c.play;
-        c = cutter_step(rt, c, terminal, next_draws(rt, before, fixed, word));
-        let play = c.play;
-        let screen = console_screens::cutter_screen(play);
-        if !console_screens::refresh(rt, screen, shown) {
+    for _ in 0..TURNS {
+        let draws = next_draws(rt, c.play, fixed, word);
+        let Some(next) = cutter_step(rt, c, terminal, draws) else {
             return;
-        }
-        if c.ended {
+        };
+        c = next;
+        let screen = console_screens::cutter_screen(c.play);
+        if !console_screens::refresh(rt, screen, shown) || c.play.stands == QUIT {
             return;
         }
         shown = screen;

@@ -18,25 +18,22 @@ fn play_mine(rt: &(impl Print + Eprint), bytes: &[u8]) -> usize
     let mut time: u32 = 0;
     let mut p = console_turns::mine_start(time);
     let mut waits = console_keys::PLAIN;
-    let mut i: usize = 0;
-    while i < bytes.len() {
-        let b = bytes[i];
-        i += 1;
-        if b == BAR {
-            return i;
+    for (i, b) in bytes.iter().enumerate() {
+        if *b == BAR {
+            return i + 1;
         }
-        if b == SHOW {
+        if *b == SHOW {
             if !console_screens::show(rt, console_screens::mine_screen(p)) {
-                return bytes.len();
+                break;
             }
         } else {
             time = wrapping_add_u32(time, STEP);
-            let mut key = [b];
+            let mut key = [*b];
             waits = console_keys::hear(waits, &mut key);
             p = console_turns::mine_turn(p, &key, time);
         }
     }
-    i
+    bytes.len()
 }
 
 // Plays Block Cutter.
@@ -45,17 +42,14 @@ fn play_cutter(rt: &(impl Print + Eprint), bytes: &[u8], draws: [u8; MOST_DRAWS]
     let n = console_screens::within(console_turns::ROUND, &draws);
     let mut p = console_turns::cutter_start(&draws[..n], time);
     let mut waits = console_keys::PLAIN;
-    let mut i: usize = 0;
-    while i < bytes.len() {
-        let b = bytes[i];
-        i += 1;
-        if b == SHOW {
+    for b in bytes {
+        if *b == SHOW {
             if !console_screens::show(rt, console_screens::cutter_screen(p)) {
                 return;
             }
         } else {
             time = wrapping_add_u32(time, STEP);
-            let mut key = [b];
+            let mut key = [*b];
             waits = console_keys::hear(waits, &mut key);
             let k = console_screens::within(console_turns::cutter_draws(p), &draws);
             p = console_turns::cutter_turn(p, &key, &draws[..k], time);

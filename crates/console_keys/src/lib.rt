@@ -36,9 +36,7 @@ fn plain_key(b: u8) -> u8
         b'7' => KEY_LEFT,
         b'8' => KEY_DOWN,
         b'9' => KEY_RIGHT,
-        b'q' => KEY_QUIT,
-        b'x' => KEY_QUIT,
-        4 => KEY_QUIT,
+        b'q' | b'x' | END => KEY_QUIT,
         b'n' => KEY_NEW,
         _ => NO_KEY,
     }
@@ -59,38 +57,27 @@ fn arrow_key(b: u8) -> u8
 }
 
 // The key that a byte gives, after what the bytes before left open.
+#[tactic(auto, unfolding(crate::specs::Keys::heard_key))]
 fn heard_key(waits: u8, b: u8) -> u8
     ensures { result ≡ heard_key waits b }
 {
-    if waits == SEQUENCE {
-        return arrow_key(b);
+    match waits {
+        SEQUENCE => arrow_key(b),
+        _ => plain_key(b),
     }
-    plain_key(b)
 }
 
 // What a byte leaves open.
+#[tactic(auto, unfolding(crate::specs::Keys::waits_after))]
 fn waits_after(waits: u8, b: u8) -> u8
     ensures { result ≡ waits_after waits b }
 {
-    if b == ESCAPE {
-        return ESCAPED;
+    match (waits, b) {
+        (_, ESCAPE) => ESCAPED,
+        (SEQUENCE, _) if b < FINAL => SEQUENCE,
+        (ESCAPED, b'[' | b'O') => SEQUENCE,
+        _ => PLAIN,
     }
-    if waits == SEQUENCE {
-        if b < FINAL {
-            return SEQUENCE;
-        }
-        return PLAIN;
-    }
-    if waits == ESCAPED {
-        if b == b'[' {
-            return SEQUENCE;
-        }
-        if b == b'O' {
-            return SEQUENCE;
-        }
-        return PLAIN;
-    }
-    PLAIN
 }
 
 // Turns bytes into keys in place, and answers what they leave open.
@@ -99,12 +86,10 @@ pub fn hear(waits: u8, bytes: &mut [u8]) -> u8
     ensures bytes_after { bytes.new ≡ keys_of waits bytes.old }
 {
     let mut open = waits;
-    let mut i: usize = 0;
-    while i < bytes.len() {
-        let b = bytes[i];
-        bytes[i] = heard_key(open, b);
+    for byte in bytes {
+        let b = *byte;
+        *byte = heard_key(open, b);
         open = waits_after(open, b);
-        i += 1;
     }
     open
 }

@@ -7,7 +7,7 @@ use console_turns::{CutterPlay, MinePlay};
 use frame::FRAME_LEN;
 
 // A head line, its bytes up to `end`, and a frame.
-#[derive(Clone, Copy)]
+#[derive(Clone, Copy, PartialEq)]
 pub struct Screen {
     pub head: [u8; HEAD],
     pub end: usize,
@@ -21,7 +21,7 @@ pub fn mine_screen(p: MinePlay) -> Screen
     let mut head = [0u8; HEAD];
     let end = crate::heads::mine_head(m.coins, m.needed, p.stands, &mut head);
     let mut frame = [0u8; FRAME_LEN];
-    mine::render(m, &mut frame);
+    let _ = mine::render(m, &mut frame);
     Screen { head, end, frame }
 }
 
@@ -33,7 +33,7 @@ pub fn cutter_screen(p: CutterPlay) -> Screen
     let mut head = [0u8; HEAD];
     let end = crate::heads::cutter_head(c.level, c.lives, ground.share, p.stands, &mut head);
     let mut frame = [0u8; FRAME_LEN];
-    cutter::render(c, &mut frame);
+    let _ = cutter::render(c, &mut frame);
     Screen { head, end, frame }
 }
 
@@ -41,48 +41,24 @@ pub fn cutter_screen(p: CutterPlay) -> Screen
 pub fn within(n: usize, buf: &[u8]) -> usize
     ensures { IsPrefixLen result buf.now }
 {
-    if n <= buf.len() {
-        return n;
-    }
-    buf.len()
+    n.min(buf.len())
 }
 
 // The head line and the frame, as they stand; false where that failed.
 pub fn show(rt: &(impl Print + Eprint), s: Screen) -> bool {
     let head = s.head;
     let end = within(s.end, &head);
-    if !streams::write(rt, &head[..end]) {
-        return false;
-    }
-    if !streams::write(rt, b"\n") {
-        return false;
-    }
     let frame = s.frame;
-    blocks::put_frame(rt, &frame)
+    streams::write(rt, &head[..end]) && streams::write(rt, b"\n") && blocks::put_frame(rt, &frame)
 }
 
 // Shows a screen in place of another, where they differ; false where that failed.
 pub fn refresh(rt: &(impl Print + Eprint), s: Screen, shown: Screen) -> bool {
-    let frame = s.frame;
-    let before = shown.frame;
-    let head = s.head;
-    let above = shown.head;
-    if frame == before {
-        if head == above {
-            return true;
-        }
-    }
     // The cursor to the top left, and the old head line away.
-    if !streams::write(rt, b"\x1b[H\x1b[K") {
-        return false;
-    }
-    show(rt, s)
+    s == shown || (streams::write(rt, b"\x1b[H\x1b[K") && show(rt, s))
 }
 
 // A cleared terminal, and the first screen; false where that failed.
 pub fn begin(rt: &(impl Print + Eprint), s: Screen) -> bool {
-    if !streams::write(rt, b"\x1b[2J\x1b[H") {
-        return false;
-    }
-    show(rt, s)
+    streams::write(rt, b"\x1b[2J\x1b[H") && show(rt, s)
 }

@@ -1,8 +1,7 @@
 -- One turn of each game at a console, over the promises of the public calls.
 use Rattle.std.specs.Prelude.{Bool, true, cond, List, [], ◌∷◌, ◌≡◌, ℕ, ◌+◌, ◌-◌, ◌*◌, ◌%◌, ◌≤◌, eqb, length, take}
 use Rattle.laws.specs.Lists.{any}
-use Rattle.refusal.specs.declared.Refusal.{Refusal}
-use Rattle.refusal.specs.Refusal.{clear}
+use Rattle.refusal.specs.Refusal.{Checked, clear}
 use Rattle.answer.specs.declared.Answer.{Answer}
 use Rattle.answer.specs.Answer.{GOING_ON, QUIT, number_of}
 use Rattle.console_keys.specs.Keys.{NEW}
@@ -23,7 +22,7 @@ use Rattle.controls.specs.Keys.{KEY_QUIT}
 abbrev pub REFUSED : ℕ
 REFUSED = 5
 
-unfoldable pub standing : Refusal → Answer → ℕ
+unfoldable pub standing : Checked → Answer → ℕ
 standing refusal answer = cond (clear refusal) (number_of answer) REFUSED
 
 -- whether a key is among those pressed

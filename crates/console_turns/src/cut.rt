@@ -6,7 +6,8 @@ ghost use Rattle.cutter_pass.specs.Pass.{pass_at};
 ghost use Rattle.console_turns.specs.Turns.{draws_due, cutter_started, cutter_after, cutter_turn};
 
 use crate::draws::MOST_DRAWS;
-use crate::{GOING_ON, QUIT, REFUSED, pressed, stands};
+use crate::{GOING_ON, QUIT, pressed, stands};
+use answer::Answer;
 use console_keys::KEY_NEW;
 use controls::KEY_QUIT;
 use cutter_state::Cutter;
@@ -44,50 +45,36 @@ pub fn cutter_draws(p: CutterPlay) -> usize
     if p.stands != GOING_ON {
         return ROUND;
     }
-    let c = p.game;
-    if c.dead {
+    if p.game.dead || !p.game.won_level {
         return 0;
     }
-    if c.won_level {
-        return next_draws(c.level);
-    }
-    0
+    next_draws(p.game.level)
 }
 
 // A round from its first reading on.
-#[tactic(auto, unfolding(crate::specs::Turns::cutter_started))]
+#[tactic(auto, unfolding(crate::specs::Turns::cutter_started, crate::specs::Turns::standing))]
 pub fn cutter_start(draws: &[u8], time: u32) -> CutterPlay
     ensures { result ≡ cutter_started draws.now time }
 {
     let marks = pace::start(time);
     let round = cutter::new_round(draws);
-    let game = round.game;
-    let mut p = CutterPlay {
-        game,
+    CutterPlay {
+        game: round.game,
         first: marks.first,
         second: marks.second,
-        stands: GOING_ON,
-    };
-    let no = round.refusal;
-    if no.number == refusal::NONE.number {
-        return p;
+        stands: stands(round.refusal, Answer::GoingOn),
     }
-    p.stands = REFUSED;
-    p
 }
 
 fn cutter_pass(p: CutterPlay, keys: &[u8], draws: &[u8], time: u32) -> CutterPlay
     ensures { result ≡ cutter_after (pass_at p.game keys.now draws.now time p.first p.second) }
 {
     let t = cutter::pass_marks(p.game, keys, draws, time, p.first, p.second);
-    let passed = t.passed;
-    let said = passed.answer;
-    let game = passed.game;
     CutterPlay {
-        game,
+        game: t.passed.game,
         first: t.first,
         second: t.second,
-        stands: stands(passed.refusal, said),
+        stands: stands(t.passed.refusal, t.passed.answer),
     }
 }
 
@@ -100,9 +87,7 @@ pub fn cutter_turn(p: CutterPlay, keys: &[u8], draws: &[u8], time: u32) -> Cutte
         return cutter_pass(p, keys, draws, time);
     }
     if pressed(keys, KEY_QUIT) {
-        let mut q = p;
-        q.stands = QUIT;
-        return q;
+        return CutterPlay { stands: QUIT, ..p };
     }
     if pressed(keys, KEY_NEW) {
         return cutter_start(draws, time);

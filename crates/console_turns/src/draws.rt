@@ -28,9 +28,7 @@ fn limit(place: usize) -> u8
 pub fn to_draws(bytes: &mut [u8])
     ensures { bytes.new ≡ draws_from 0 bytes.old }
 {
-    let mut i: usize = 0;
-    while i < bytes.len() {
-        bytes[i] = bytes[i] % limit(i);
-        i += 1;
+    for (i, byte) in bytes.iter_mut().enumerate() {
+        *byte %= limit(i);
     }
 }

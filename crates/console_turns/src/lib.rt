@@ -12,7 +12,7 @@ use answer::Answer;
 pub use cut::{CutterPlay, ROUND, cutter_draws, cutter_start, cutter_turn};
 pub use draws::{MOST_DRAWS, to_draws};
 pub use mining::{MinePlay, mine_start, mine_turn};
-use refusal::Refusal;
+use refusal::Checked;
 
 // How a round stands: the numbers of a pass's answers, and 5 where a call was refused.
 pub const GOING_ON: u8 = 0;
@@ -28,25 +28,18 @@ pub const QUIT: u8 = 4;
 pub const REFUSED: u8 = 5;
 
 #[tactic(auto, unfolding(crate::specs::Turns::standing))]
-fn stands(no: Refusal, said: Answer) -> u8
-    ensures { result ≡ standing no said }
+fn stands(checked: Checked, said: Answer) -> u8
+    ensures { result ≡ standing checked said }
 {
-    if no.number == refusal::NONE.number {
-        return answer::number(said);
+    match checked {
+        Ok(()) => answer::number(said),
+        Err(_) => REFUSED,
     }
-    REFUSED
 }
 
 // Whether a key is among those pressed.
 fn pressed(keys: &[u8], key: u8) -> bool
     ensures { result ≡ pressed_in keys.now key }
 {
-    let mut i: usize = 0;
-    while i < keys.len() {
-        if keys[i] == key {
-            return true;
-        }
-        i += 1;
-    }
-    false
+    keys.iter().any(|k| *k == key)
 }

@@ -34,14 +34,11 @@ fn mine_pass(p: MinePlay, keys: &[u8], time: u32) -> MinePlay
     ensures { result ≡ mine_after (pass_at p.game keys.now time p.first p.second) }
 {
     let t = mine::pass_marks(p.game, keys, time, p.first, p.second);
-    let passed = t.passed;
-    let said = passed.answer;
-    let game = passed.game;
     MinePlay {
-        game,
+        game: t.passed.game,
         first: t.first,
         second: t.second,
-        stands: stands(passed.refusal, said),
+        stands: stands(t.passed.refusal, t.passed.answer),
     }
 }
 
@@ -54,9 +51,7 @@ pub fn mine_turn(p: MinePlay, keys: &[u8], time: u32) -> MinePlay
         return mine_pass(p, keys, time);
     }
     if pressed(keys, KEY_QUIT) {
-        let mut q = p;
-        q.stands = QUIT;
-        return q;
+        return MinePlay { stands: QUIT, ..p };
     }
     if pressed(keys, KEY_NEW) {
         return mine_start(time);

@@ -1,4 +1,3 @@
 pub mod Runs
-pub mod MineBytes
-pub mod CutBytes
+pub mod Bytes
 pub mod Example

@@ -3,11 +3,12 @@
 
 mod cuts;
 mod mines;
+mod playing;
 mod reading;
 
-pub use cuts::{CutRun, CutSaid, cut_byte, cut_next, cut_numbers, cut_run, cut_start};
-pub use mines::{MineRun, MineSaid, mine_byte, mine_next, mine_numbers, mine_run};
-pub use reading::{play_cuts, play_mines};
+pub use cuts::{cut_byte, cut_numbers, cut_run, cut_start, play_cuts};
+pub use mines::{mine_byte, mine_numbers, mine_run, play_mines};
+pub use playing::{Played, Run, Said};
 
 // What parts the scripts of a run of cases; no script uses it.
 pub const BAR: u8 = b'|';

@@ -1,26 +1,16 @@
-// What `mines` does with a byte, and with a run of bytes.
+// What `mines` does with a byte, with a run of bytes, and with standard input.
 ghost use Rattle.std.specs.Prelude.{◌*◌, ◌≤◌, ◌≡◌, length};
 ghost use Rattle.text.specs.Text.{LINE};
-ghost use Rattle.lines.specs.Mines.{mine_numbers, said_of, mine_byte, mine_next, MineRan};
+ghost use Rattle.mine_rules.specs.Load.{loaded};
+ghost use Rattle.lines.specs.Mines.{mine_numbers, said_of, mine_byte, MineRan};
 
-use crate::BAR;
+use crate::playing::{Played, Run, Said, run_bytes, says};
+use crate::reading::play;
 use controls::{DOWN, LEFT, RIGHT, UP};
 use mine::MineAnswer;
 use mine_state::Mine;
+use refusal::Refusal;
 use text::{NUMBERS, Says};
-
-#[derive(Clone, Copy)]
-pub struct MineSaid {
-    pub says: Says,
-    pub game: Mine,
-}
-
-// The game after some bytes, and where their lines end.
-#[derive(Clone, Copy)]
-pub struct MineRun {
-    pub game: Mine,
-    pub end: usize,
-}
 
 // The numbers of a line.
 pub fn mine_numbers(m: Mine) -> [u64; NUMBERS]
@@ -37,35 +27,28 @@ pub fn mine_numbers(m: Mine) -> [u64; NUMBERS]
     ]
 }
 
-// What a call's answer says.
-fn said_of(a: MineAnswer) -> MineSaid
+// What a call's answer says, and its game.
+#[tactic(auto, unfolding(crate::specs::Mines::said_of))]
+fn said_of(a: MineAnswer) -> Said<Mine>
     ensures { result ≡ said_of a }
 {
-    let no = a.refusal;
-    let game = a.game;
-    if no.number == refusal::NONE.number {
-        return MineSaid {
-            says: Says::Numbers,
-            game,
-        };
-    }
-    MineSaid {
-        says: Says::Refused(no),
-        game,
+    Said {
+        says: says(a.refusal),
+        game: a.game,
     }
 }
 
 // One byte: L load, 5 8 7 9 move, g gravity, c creatures; newline is ignored, others are refused.
 #[tactic(auto, unfolding(crate::specs::Mines::mine_byte))]
-pub fn mine_byte(m: Mine, b: u8) -> MineSaid
+pub fn mine_byte(m: Mine, b: u8) -> Said<Mine>
     ensures { result ≡ mine_byte m b }
 {
     match b {
-        b'\n' => MineSaid {
+        b'\n' => Said {
             says: Says::Nothing,
             game: m,
         },
-        b'L' => MineSaid {
+        b'L' => Said {
             says: Says::Numbers,
             game: mine::load(),
         },
@@ -75,41 +58,42 @@ pub fn mine_byte(m: Mine, b: u8) -> MineSaid
         b'9' => said_of(mine::step_player(m, RIGHT)),
         b'g' => said_of(mine::gravity(m)),
         b'c' => said_of(mine::move_enemies(m)),
-        _ => MineSaid {
-            says: Says::Refused(refusal::COMMAND),
+        _ => Said {
+            says: Says::Refused(Refusal::Command),
             game: m,
         },
     }
 }
 
-// The next byte of a run; where the run is parted into scripts, each of them starts loaded.
-#[tactic(auto, unfolding(crate::specs::Mines::mine_next))]
-pub fn mine_next(m: Mine, parted: bool, b: u8) -> MineSaid
-    ensures { result ≡ mine_next parted m b }
-{
-    if parted & (b == BAR) {
-        return MineSaid {
-            says: Says::Nothing,
-            game: mine::load(),
-        };
+impl Played for Mine {
+    ghost started = { loaded };
+
+    ghost numbers_of = { mine_numbers };
+
+    ghost byte_of = { mine_byte };
+
+    fn start() -> Mine {
+        mine::load()
     }
-    mine_byte(m, b)
+
+    fn numbers(self) -> [u64; NUMBERS] {
+        mine_numbers(self)
+    }
+
+    fn byte(self, b: u8) -> Said<Mine> {
+        mine_byte(self, b)
+    }
 }
 
 // A run of bytes: plays them, and puts their lines at the start of `out`.
-pub fn mine_run(m: Mine, parted: bool, bytes: &[u8], out: &mut [u8]) -> MineRun
+pub fn mine_run(m: Mine, parted: bool, bytes: &[u8], out: &mut [u8]) -> Run<Mine>
     requires { length bytes.now * LINE ≤ length out.old }
     ensures { MineRan parted m bytes.now out.old result out.new }
 {
-    let mut game = m;
-    let mut end: usize = 0;
-    let mut i: usize = 0;
-    while i < bytes.len() {
-        let said = mine_next(game, parted, bytes[i]);
-        let says = said.says;
-        game = said.game;
-        end = text::put_line(says, mine_numbers(game), out, end);
-        i += 1;
-    }
-    MineRun { game, end }
+    run_bytes(m, parted, bytes, out)
+}
+
+// Plays standard input; where it is parted into scripts, each of them starts anew.
+pub fn play_mines(rt: &(impl Input + Print + Eprint), parted: bool) {
+    play(rt, mine::load(), parted);
 }

@@ -16,59 +16,41 @@ struct Plays {
     cutting: bool,
 }
 
-// One byte of either play.
-fn press(p: Plays, b: u8) -> Plays {
-    let mine = p.mine;
-    let cut = p.cut;
-    if b == BAR {
-        return Plays {
-            mine,
-            cut,
-            cutting: true,
-        };
-    }
-    if p.cutting {
-        let said = cut_byte(cut, b);
-        let game = said.game;
-        return Plays {
-            mine,
-            cut: game,
-            cutting: true,
-        };
-    }
-    let told = mine_byte(mine, b);
-    let game = told.game;
-    Plays {
-        mine: game,
-        cut,
-        cutting: false,
+impl Plays {
+    // One byte of either play.
+    fn press(&mut self, b: u8) {
+        if b == BAR {
+            self.cutting = true;
+        } else if self.cutting {
+            self.cut = cut_byte(self.cut, b).game;
+        } else {
+            self.mine = mine_byte(self.mine, b).game;
+        }
     }
 }
 
 // All of them.
 fn play(bytes: &[u8]) -> Plays {
-    let mut p = Plays {
+    let mut plays = Plays {
         mine: mine::load(),
         cut: cut_start(),
         cutting: false,
     };
-    let mut i: usize = 0;
-    while i < bytes.len() {
-        p = press(p, bytes[i]);
-        i += 1;
+    for b in bytes {
+        plays.press(*b);
     }
-    p
+    plays
 }
 
 fn main(rt: HostRuntime) {
     let mut input = io::buffer();
     let n = streams::read_full(&rt, &mut input);
-    let p = play(&input[..n]);
+    let plays = play(&input[..n]);
     let mut frame = [0u8; frame::FRAME_LEN];
-    mine::render(p.mine, &mut frame);
+    let _ = mine::render(plays.mine, &mut frame);
     if !blocks::put_frame(&rt, &frame) {
         return;
     }
-    cutter::render(p.cut, &mut frame);
+    let _ = cutter::render(plays.cut, &mut frame);
     blocks::put_frame(&rt, &frame);
 }

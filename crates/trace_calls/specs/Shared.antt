@@ -1,6 +1,6 @@
 -- Traces: what the calls of both games share.
+use Rattle.refusal.specs.Refusal.{Checked}
 use Rattle.std.specs.Prelude.{cond, List, [], ℕ, ◌-◌, eqb, ltb, length, replicate}
-use Rattle.refusal.specs.declared.Refusal.{Refusal}
 use Rattle.mine_state.specs.declared.Mine.{Mine}
 use Rattle.cutter_state.specs.declared.Cutter.{Cutter}
 use Rattle.pace.specs.declared.Pace.{Pace}
@@ -32,22 +32,22 @@ at_least n args p = cond (ltb (length args) n) Unread p
 
 module _ (h : Head) (current state result : List ℕ) where
   -- a call that leaves state and record, and tells something
-  abbrev pub stays : Refusal → List ℕ → Part
+  abbrev pub stays : Checked → List ℕ → Part
   stays refusal told = compared h current state result refusal 0 current told
 
   -- a call that gives a state and a record, and tells nothing
-  abbrev pub mine_told : Refusal → ℕ → Mine → Pace → Part
+  abbrev pub mine_told : Checked → ℕ → Mine → Pace → Part
   mine_told refusal answer m p = compared h current state result refusal answer (mine_bytes m p.first p.second) []
 
-  abbrev pub cutter_told : Refusal → ℕ → Cutter → Pace → Part
+  abbrev pub cutter_told : Checked → ℕ → Cutter → Pace → Part
   cutter_told refusal answer c p = compared h current state result refusal answer (cutter_bytes c p.first p.second) []
 
   -- one that tells the cells which a search and a walk took, 2 bytes each
-  abbrev pub cutter_made : Refusal → ℕ → Cutter → Pace → ℕ → ℕ → Part
+  abbrev pub cutter_made : Checked → ℕ → Cutter → Pace → ℕ → ℕ → Part
   cutter_made refusal answer c p searched walked = compared h current state result refusal answer (cutter_bytes c p.first p.second) (pair_in 2 searched walked)
 
   -- a picture: the refusal, and the frame after
-  abbrev pub showed : Refusal × List ℕ → Part
+  abbrev pub showed : Checked × List ℕ → Part
   showed f = stays f.0 f.1
 
 -- the frame of n bytes before its picture

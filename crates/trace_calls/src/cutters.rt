@@ -50,8 +50,7 @@ fn cutter_answered(
 ) -> Part
     ensures { result ≡ cutter_told h current.now state.now res.now a.refusal 0 a.game p }
 {
-    let c = a.game;
-    cutter_told(h, a.refusal, NONE, c, p, current, state, res)
+    cutter_told(h, a.refusal, NONE, a.game, p, current, state, res)
 }
 
 fn answered_made(
@@ -64,9 +63,8 @@ fn answered_made(
 ) -> Part
     ensures { result ≡ cutter_made h current.now state.now res.now a.refusal 0 a.game p a.searched a.walked }
 {
-    let c = a.game;
     cutter_made(
-        h, a.refusal, NONE, c, p, a.searched, a.walked, current, state, res,
+        h, a.refusal, NONE, a.game, p, a.searched, a.walked, current, state, res,
     )
 }
 
@@ -200,13 +198,11 @@ fn passed(
         second: t.second,
     };
     let q = t.passed;
-    let given = q.answer;
-    let game = q.game;
     cutter_made(
         h,
         q.refusal,
-        answer::number(given),
-        game,
+        answer::number(q.answer),
+        q.game,
         after,
         q.searched,
         q.walked,
@@ -248,7 +244,7 @@ fn started(h: Head, c: Cutter, args: &[u8], current: &[u8], state: &[u8], res: &
         return Part::Unread;
     }
     let p = pace::start(word(args, 0, MARK) as u32);
-    cutter_told(h, refusal::NONE, NONE, c, p, current, state, res)
+    cutter_told(h, Ok(()), NONE, c, p, current, state, res)
 }
 
 pub fn on_cutter(h: Head, args: &[u8], current: &[u8], state: &[u8], res: &[u8]) -> Part
@@ -258,8 +254,7 @@ pub fn on_cutter(h: Head, args: &[u8], current: &[u8], state: &[u8], res: &[u8])
 {
     let c = cutter_of(current);
     let p = marks_of(current);
-    let call = h.call;
-    match call {
+    match h.call {
         DIRECTION => directed(h, c, p, args, current, state, res),
         STEP => stepped(h, c, p, args, current, state, res),
         CREATURES => ticked(h, c, p, args, current, state, res),

@@ -28,8 +28,7 @@ const PICTURE: u8 = 6;
 fn mine_answered(h: Head, a: MineAnswer, p: Pace, current: &[u8], state: &[u8], res: &[u8]) -> Part
     ensures { result ≡ mine_told h current.now state.now res.now a.refusal 0 a.game p }
 {
-    let m = a.game;
-    mine_told(h, a.refusal, NONE, m, p, current, state, res)
+    mine_told(h, a.refusal, NONE, a.game, p, current, state, res)
 }
 
 fn moved(h: Head, m: Mine, p: Pace, args: &[u8], current: &[u8], state: &[u8], res: &[u8]) -> Part
@@ -75,13 +74,11 @@ fn passed(h: Head, m: Mine, p: Pace, args: &[u8], current: &[u8], state: &[u8], 
         second: t.second,
     };
     let q = t.passed;
-    let given = q.answer;
-    let game = q.game;
     mine_told(
         h,
         q.refusal,
-        answer::number(given),
-        game,
+        answer::number(q.answer),
+        q.game,
         after,
         current,
         state,
@@ -108,7 +105,7 @@ fn started(h: Head, m: Mine, args: &[u8], current: &[u8], state: &[u8], res: &[u
         return Part::Unread;
     }
     let p = pace::start(word(args, 0, MARK) as u32);
-    mine_told(h, refusal::NONE, NONE, m, p, current, state, res)
+    mine_told(h, Ok(()), NONE, m, p, current, state, res)
 }
 
 pub fn on_mine(h: Head, args: &[u8], current: &[u8], state: &[u8], res: &[u8]) -> Part
@@ -118,8 +115,7 @@ pub fn on_mine(h: Head, args: &[u8], current: &[u8], state: &[u8], res: &[u8]) -
 {
     let m = mine_of(current);
     let p = marks_of(current);
-    let call = h.call;
-    match call {
+    match h.call {
         MOVE => moved(h, m, p, args, current, state, res),
         GRAVITY => fallen(h, m, p, args, current, state, res),
         CREATURES => ticked(h, m, p, args, current, state, res),

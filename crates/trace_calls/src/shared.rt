@@ -7,7 +7,7 @@ ghost use Rattle.trace_calls.specs.Either.{mine_loaded, round_begun, page_told, 
 use cutter_state::Cutter;
 use mine_state::Mine;
 use pace::Pace;
-use refusal::Refusal;
+use refusal::Checked;
 use trace_questions::{NONE, mine_asked, mover_asked};
 use trace_states::{CUTTER, MINE, put_cutter, put_mine};
 use trace_verdict::{Head, Part, compared_with};
@@ -54,7 +54,7 @@ pub fn marks_of(current: &[u8]) -> Pace
 // What a call without a result gave.
 pub fn mine_told(
     h: Head,
-    refusal: Refusal,
+    refusal: Checked,
     answer: u8,
     m: Mine,
     p: Pace,
@@ -72,7 +72,7 @@ pub fn mine_told(
 // What a call without a result gave.
 pub fn cutter_told(
     h: Head,
-    refusal: Refusal,
+    refusal: Checked,
     answer: u8,
     c: Cutter,
     p: Pace,
@@ -93,7 +93,7 @@ const TAKEN: usize = 4;
 // What a call gave that tells how many cells a search and a walk took.
 pub fn cutter_made(
     h: Head,
-    refusal: Refusal,
+    refusal: Checked,
     answer: u8,
     c: Cutter,
     p: Pace,
@@ -118,19 +118,19 @@ fn load(h: Head, p: Pace, args: &[u8], current: &[u8], state: &[u8], res: &[u8])
     if args.len() != 0 {
         return Part::Unread;
     }
-    mine_told(h, refusal::NONE, NONE, mine::load(), p, current, state, res)
+    mine_told(h, Ok(()), NONE, mine::load(), p, current, state, res)
 }
 
 // A refused new round leaves the current state.
+#[tactic(auto, unfolding(crate::specs::Either::round_begun))]
 fn new_round(h: Head, p: Pace, draws: &[u8], current: &[u8], state: &[u8], res: &[u8]) -> Part
     ensures { result ≡ round_begun h draws.now current.now state.now res.now p }
 {
     let a = cutter::new_round(draws);
-    let no = a.refusal;
-    if no.number != refusal::NONE.number {
-        return compared_with(h, no, NONE, current, current, state, b"", res);
+    if a.refusal.is_err() {
+        return compared_with(h, a.refusal, NONE, current, current, state, b"", res);
     }
-    cutter_told(h, refusal::NONE, NONE, a.game, p, current, state, res)
+    cutter_told(h, Ok(()), NONE, a.game, p, current, state, res)
 }
 
 fn page(h: Head, args: &[u8], current: &[u8], state: &[u8], res: &[u8]) -> Part
@@ -141,14 +141,13 @@ fn page(h: Head, args: &[u8], current: &[u8], state: &[u8], res: &[u8]) -> Part
     }
     let number = word(args, 0, PLACE) as usize;
     let told = frame::page(&args[PLACE..], number);
-    compared_with(h, refusal::NONE, NONE, current, current, state, told, res)
+    compared_with(h, Ok(()), NONE, current, current, state, told, res)
 }
 
 pub fn on_either(h: Head, p: Pace, args: &[u8], current: &[u8], state: &[u8], res: &[u8]) -> Part
     ensures { result ≡ on_either h args.now current.now state.now res.now p }
 {
-    let call = h.call;
-    match call {
+    match h.call {
         LOAD => load(h, p, args, current, state, res),
         MINE_WHO => mine_asked(h, args, current, state, res),
         NEW_ROUND => new_round(h, p, args, current, state, res),

@@ -1,4 +1,5 @@
 -- A long list asked part by part. Assumes nothing.
+use Rattle.std.specs.Prelude.{None, Option, Some}
 use mathlib.Core.Bool.{Bool, true, false, cond}
 use mathlib.Core.List.{List, [], ◌∷◌, ◌++◌}
 use mathlib.Core.Path.{◌≡◌, refl, sym, ap, ◌∙◌}
@@ -13,7 +14,7 @@ use Rattle.laws.proofs.Counts.{count_le, count-append}
 use Rattle.found.specs.First.{index, number, first_from, first}
 use Rattle.found.proofs.First.{first_bound, number-count}
 use Rattle.found.specs.declared.Found.{Found}
-use Rattle.found.specs.declared.Found.TheVariants.{At, Nobody}
+use Rattle.found.specs.First.{At}
 use Rattle.trace_questions.specs.Asked.{both_found, Fits}
 
 module _ {A : Type 0} (f g : ℕ → A) (z : A) (n m from : ℕ) (h : from < n) where
@@ -31,18 +32,18 @@ module _ {A : Type 0} (f g : ℕ → A) (z : A) (n m from : ℕ) (h : from < n) 
       ∙ sym (get_or-take m (drop from (table n f)) i z b ∙ get_or-drop from (table n f) i z ∙ get_or-table_lem n f (from + i) z (omega arith)))
 
 -- behind somebody, the numbers add up
-both-number : (i n k : ℕ) (g : Found) → both_found (At i n) k g ≡ At i (n + number g)
-both-number i n k (At j m) = refl
-both-number i n k Nobody = rw (add-zero n)
+both-number : (i n k : ℕ) (g : Option Found) → both_found (At i n) k g ≡ At i (n + number g)
+both-number i n k (Some g) = refl
+both-number i n k None = rw (add-zero n)
 
 module _ {A : Type 0} (test : A → Bool) where
   -- what is found in a list that begins at k
-  shifted : (k d : ℕ) (l : List A) → first_from test (k + d) l ≡ both_found Nobody k (first_from test d l)
+  shifted : (k d : ℕ) (l : List A) → first_from test (k + d) l ≡ both_found None k (first_from test d l)
   shifted k d [] = refl
   shifted k d (a ∷ l) = let p : k + d + 1 ≡ k + (d + 1) = omega arith in go (test a) (rw p (shifted k (d + 1) l))
     where
-      go : (b : Bool) → first_from test (k + d + 1) l ≡ both_found Nobody k (first_from test (d + 1) l)
-          → cond b (At (k + d) (count test (a ∷ l))) (first_from test (k + d + 1) l) ≡ both_found Nobody k (cond b (At d (count test (a ∷ l))) (first_from test (d + 1) l))
+      go : (b : Bool) → first_from test (k + d + 1) l ≡ both_found None k (first_from test (d + 1) l)
+          → cond b (At (k + d) (count test (a ∷ l))) (first_from test (k + d + 1) l) ≡ both_found None k (cond b (At d (count test (a ∷ l))) (first_from test (d + 1) l))
       go true e = refl
       go false e = e
 
@@ -58,11 +59,11 @@ module _ {A : Type 0} (test : A → Bool) where
           ∙ sym (both-number d (count test (a ∷ s)) (d + 1 + length s) (first test t))
       go false q e = e
 
-  index_le : (l : List A) (f : Found) → f ≡ first test l → index f ≤ length l
-  index_le l (At i n) e = omega (arith, first_bound test i n l (sym e))
-  index_le l Nobody e = omega arith
+  index_le : (l : List A) (f : Option Found) → f ≡ first test l → index f ≤ length l
+  index_le l (Some f) e = omega (arith, first_bound test f.index f.number l (sym e))
+  index_le l None e = omega arith
 
-  number_le : (l : List A) (f : Found) → f ≡ first test l → number f ≤ length l
+  number_le : (l : List A) (f : Option Found) → f ≡ first test l → number f ≤ length l
   number_le l f e = omega (arith, ap number e, number-count test l, count_le test l)
 
 take_plus : {A : Type 0} (k m : ℕ) (l : List A) → k ≤ length l → take (k + m) l ≡ take k l ++ take m (drop k l)
@@ -71,7 +72,7 @@ take_plus (suc k) m [] h = absurd (omega arith)
 take_plus (suc k) m (a ∷ l) h = rw (suc-add k m, take_plus k m l (le_of_suc-le-suc h))
 
 -- A loop over the parts of a list: f is found in those before k, g in the one from k on.
-module _ {A : Type 0} (test : A → Bool) (l : List A) (m k : ℕ) (f g : Found) (e : f ≡ first test (take k l)) where
+module _ {A : Type 0} (test : A → Bool) (l : List A) (m k : ℕ) (f g : Option Found) (e : f ≡ first test (take k l)) where
   pub part_fits : g ≡ first test (take m (drop k l)) → k + m < 2 ^ 64 → Fits f k g
   part_fits p h =
       let i = index_le test (take m (drop k l)) g p in
@@ -84,7 +85,7 @@ module _ {A : Type 0} (test : A → Bool) (l : List A) (m k : ℕ) (f g : Found)
       let q : 0 + length (take k l) ≡ k = omega (arith, length-take k l) in
       rw (e, p, take_plus k m l h) (sym (rw q at (joins test 0 (take k l) (take m (drop k l)))))
 
-pub parts_end : {A : Type 0} (test : A → Bool) (l : List A) (k : ℕ) {f : Found} → f ≡ first test (take k l) → length l ≤ k → f ≡ first test l
+pub parts_end : {A : Type 0} (test : A → Bool) (l : List A) (k : ℕ) {f : Option Found} → f ≡ first test (take k l) → length l ≤ k → f ≡ first test l
 parts_end test l k e h = e ∙ ap (first test) (take_all k l h)
 
 -- a part of a slice to its end

@@ -12,11 +12,12 @@ ghost use Rattle.trace_questions.specs.Asked.{both_found, Fits, found_told, mine
 use cutter_ground::Mover;
 use found::Found;
 use mine_state::Enemy;
+use std::array;
 use trace_states::{enemy_of, mover_of};
 use trace_verdict::{Head, Part, compared_with};
 use trace_words::{PLACE, put_pair, word};
 
-// A refusal's number and an answer that tell nothing.
+// An answer, or the number of a refusal, that tells nothing.
 pub const NONE: u8 = 0;
 
 // The place that is asked for, which stands before the list.
@@ -31,18 +32,20 @@ const ENEMY: usize = 17;
 const MOVER: usize = 4;
 
 // The index and the number in eight bytes each, or nothing for nobody.
-fn told(h: Head, f: Found, current: &[u8], state: &[u8], res: &[u8]) -> Part
+#[tactic(auto, unfolding(crate::specs::Asked::found_told))]
+fn told(h: Head, f: Option<Found>, current: &[u8], state: &[u8], res: &[u8]) -> Part
     ensures { result ≡ found_told h current.now state.now res.now f }
 {
-    let Found::At(i, n) = f else {
-        return compared_with(h, refusal::NONE, NONE, current, current, state, b"", res);
+    let Some(Found { index, number }) = f else {
+        return compared_with(h, Ok(()), NONE, current, current, state, b"", res);
     };
     let mut bytes = [0u8; ANSWER];
-    put_pair(i as u64, n as u64, PLACE, &mut bytes, 0);
-    compared_with(h, refusal::NONE, NONE, current, current, state, &bytes, res)
+    put_pair(index as u64, number as u64, PLACE, &mut bytes, 0);
+    compared_with(h, Ok(()), NONE, current, current, state, &bytes, res)
 }
 
 // Creature k of a list of n, and an empty slot past them.
+#[tactic(auto, unfolding(crate::specs::Lists::enemy_or))]
 fn enemy_or(list: &[u8], n: usize, k: usize) -> Enemy
     requires { n * ENEMY ≤ length list.now }
     ensures { result ≡ enemy_or n list.now k }
@@ -58,46 +61,43 @@ fn enemies_from(list: &[u8], n: usize, from: usize) -> [Enemy; mine_state::MAX_E
     requires { InList ENEMY list.now n from }
     ensures { result ≡ enemies_from n list.now from }
 {
-    let nobody = Enemy { x: 0, y: 0, dir: 0 };
-    let mut enemies = [nobody; mine_state::MAX_ENEMIES];
-    let mut i: usize = 0;
-    while i < mine_state::MAX_ENEMIES {
-        let e = enemy_or(list, n, from + i);
-        enemies[i] = e;
-        i += 1;
-    }
-    enemies
+    array::from_fn(|i| enemy_or(list, n, from + i))
 }
 
 // What is found in a list of two parts, the second of which begins at `from`.
-fn both(f: Found, from: usize, g: Found) -> Found
+fn both(f: Option<Found>, from: usize, g: Option<Found>) -> Option<Found>
     requires { Fits f from g }
     ensures { result ≡ both_found f from g }
 {
-    let Found::At(j, m) = g else {
+    let Some(there) = g else {
         return f;
     };
-    let Found::At(i, n) = f else {
-        return Found::At(from + j, m);
+    let Some(here) = f else {
+        return Some(Found {
+            index: from + there.index,
+            number: there.number,
+        });
     };
-    Found::At(i, n + m)
+    Some(Found {
+        index: here.index,
+        number: here.number + there.number,
+    })
 }
 
 // The first of the list at (x, y) and how many are there.
-fn mine_who(list: &[u8], x: usize, y: usize) -> Found
+fn mine_who(list: &[u8], x: usize, y: usize) -> Option<Found>
     ensures { result ≡ Mine.who_at (enemies_in list.now) x y }
 {
     let n = list.len() / ENEMY;
-    let mut found = Found::Nobody;
-    let mut from: usize = 0;
-    while from < n {
+    let mut found = None;
+    for from in (0..n).step_by(mine_state::MAX_ENEMIES) {
         let part = enemies_from(list, n, from);
         found = both(found, from, mine::who_of(part, n - from, x, y));
-        from += mine_state::MAX_ENEMIES;
     }
     found
 }
 
+#[tactic(auto, unfolding(crate::specs::Asked::asked, crate::specs::Asked::mine_asked))]
 pub fn mine_asked(h: Head, args: &[u8], current: &[u8], state: &[u8], res: &[u8]) -> Part
     ensures { result ≡ mine_asked h args.now current.now state.now res.now }
 {
@@ -113,6 +113,7 @@ pub fn mine_asked(h: Head, args: &[u8], current: &[u8], state: &[u8], res: &[u8]
     told(h, mine_who(list, x, y), current, state, res)
 }
 
+#[tactic(auto, unfolding(crate::specs::Lists::mover_or))]
 fn mover_or(list: &[u8], n: usize, k: usize) -> Mover
     requires { n * MOVER ≤ length list.now }
     ensures { result ≡ mover_or n list.now k }
@@ -132,36 +133,22 @@ fn movers_from(list: &[u8], n: usize, from: usize) -> [Mover; cutter_ground::MAX
     requires { InList MOVER list.now n from }
     ensures { result ≡ movers_from n list.now from }
 {
-    let nobody = Mover {
-        x: 0,
-        y: 0,
-        vx: 0,
-        vy: 0,
-    };
-    let mut enemies = [nobody; cutter_ground::MAX_ENEMIES];
-    let mut i: usize = 0;
-    while i < cutter_ground::MAX_ENEMIES {
-        let e = mover_or(list, n, from + i);
-        enemies[i] = e;
-        i += 1;
-    }
-    enemies
+    array::from_fn(|i| mover_or(list, n, from + i))
 }
 
-fn mover_who(list: &[u8], x: usize, y: usize) -> Found
+fn mover_who(list: &[u8], x: usize, y: usize) -> Option<Found>
     ensures { result ≡ Cutter.who_at (movers_in list.now) x y }
 {
     let n = list.len() / MOVER;
-    let mut found = Found::Nobody;
-    let mut from: usize = 0;
-    while from < n {
+    let mut found = None;
+    for from in (0..n).step_by(cutter_ground::MAX_ENEMIES) {
         let part = movers_from(list, n, from);
         found = both(found, from, cutter::who_of(part, n - from, x, y));
-        from += cutter_ground::MAX_ENEMIES;
     }
     found
 }
 
+#[tactic(auto, unfolding(crate::specs::Asked::asked, crate::specs::Asked::mover_asked))]
 pub fn mover_asked(h: Head, args: &[u8], current: &[u8], state: &[u8], res: &[u8]) -> Part
     ensures { result ≡ mover_asked h args.now current.now state.now res.now }
 {

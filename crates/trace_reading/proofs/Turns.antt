@@ -1,5 +1,5 @@
 -- A turn takes the run over the entry that it read, or leaves it. Assumes nothing.
-use Rattle.std.proofs.Common.{◌≡◌, ℕ, zero, suc, ◌+◌, ◌≤◌, Bool, true, false, cond, not, List, [], ◌∷◌, ◌++◌, sym, ap, ◌∙◌, ⊎_elim, arith}
+use Rattle.std.proofs.Common.{◌≡◌, ℕ, zero, suc, ◌+◌, ◌≤◌, Bool, true, false, cond, not, List, [], ◌∷◌, ◌++◌, refl, sym, ap, ◌∙◌, ⊎_elim, arith}
 use mathlib.Core.Bool.{false≢true}
 use Rattle.laws.specs.Lists.{count}
 use Rattle.laws.proofs.Counts.{count-append}
@@ -18,18 +18,22 @@ none : (b : Bool) (n : ℕ) → n ≡ 0 → not b ≡ true → n + cond b (suc z
 none true n z e = absurd (false≢true e)
 none false n z e = omega arith
 
-one_more : (es : List Entry) (run : Run) (more : Bool) (x : Entry) (t : Turned) → more ≡ true → Reads es run more → Takes run x t
-    → Reads (es ++ (x ∷ [])) t.run t.more
-one_more es run more x t m r p =
-    let z = r.readable m in
+one_more : (es : List Entry) (run : Run) (x : Entry) (t : Turned) → Reads es run true → Takes run x t → Reads (es ++ (x ∷ [])) t.run t.more
+one_more es run x t r p =
+    let z = r.readable refl in
     record {
       ran = p.next ∙ ap (λ (s : Run). after_entry s x) r.ran ∙ sym (run_more begun es x);
       ended = rw (count-append unread es (x ∷ [])) (one_at_most (unread x) (count unread es) z);
       readable = λ e. rw (count-append unread es (x ∷ [])) (none (unread x) (count unread es) z (sym p.more ∙ e));
     }
 
-pub turned : (run : Run) (more : Bool) (body current : List ℕ) (t : Turned) → more ≡ true → SomeRead run more → Turns run body current t → SomeRead t.run t.more
-turned run more body current t m s =
+pub turned : (run : Run) (body current : List ℕ) (t : Turned) → SomeRead run true → Turns run body current t → SomeRead t.run t.more
+turned run body current t s =
     ⊎_elim
-    (λ p. (s.0, record { ran = p.0 ∙ s.1.ran; ended = s.1.ended; readable = λ e. s.1.readable m }))
-    (λ p. let x = entry_of p.0 body current in (s.0 ++ (x ∷ []), one_more s.0 run more x t m s.1 p.1))
+    (λ p. (s.0, record { ran = p.0 ∙ s.1.ran; ended = s.1.ended; readable = λ e. s.1.readable refl }))
+    (λ p. let x = entry_of p.0 body current in (s.0 ++ (x ∷ []), one_more s.0 run x t s.1 p.1))
+
+-- more may be read unless it is said that there is none
+pub goes_on : (run : Run) (more : Bool) → not more ≡ false → SomeRead run more → SomeRead run true
+goes_on run true e s = s
+goes_on run false e s = absurd (false≢true (sym e))

@@ -1,15 +1,13 @@
 // A trace from standard input to its end, entry by entry.
-ghost use Rattle.std.specs.Prelude.{◌≡◌, ◌<◌, length, take};
+ghost use Rattle.std.specs.Prelude.{IfSome, ◌≡◌, ◌<◌, length, take};
 ghost use Rattle.trace_words.specs.Numbers.{InWord};
 ghost use Rattle.trace_reading.specs.Run.{HEADER, head_of, found_of, is_same, is_unread, after_of};
-ghost use Rattle.laws.specs.Lists.{bit};
 ghost use Rattle.trace_reading.specs.CodeBuffers.{BODY, MOST, Lengths, Buffers};
 ghost use Rattle.trace_reading.specs.CodeTurns.{Turns};
 ghost use Rattle.trace_reading.specs.Told.{length_after, Ran};
 
 use crate::entry::{SET, judge};
 use crate::telling::{say_difference, say_nothing, say_verdict};
-use std::num::wrapping_add_u64;
 use trace_verdict::{Head, Part};
 use trace_words::{put_cells, word};
 
@@ -21,11 +19,10 @@ const BODY: usize = 196608;
 
 const MOST: usize = 65536;
 
-// An entry as it was read: whether the trace is over, whether all of the entry is there, what its
-// header tells, and the lengths of its parts.
+// An entry as it was read: whether all of it is there, what its header tells, and the lengths of its
+// parts.
 #[derive(Clone, Copy)]
 struct Shape {
-    over: bool,
     whole: bool,
     head: Head,
     args: usize,
@@ -68,40 +65,43 @@ fn head_of(header: &[u8]) -> Head
     }
 }
 
-// Reads an entry: its header, and its three parts into `body`.
-fn read_entry(rt: &(impl Input + Eprint), body: &mut [u8]) -> Shape
+// Reads an entry: its header, and its three parts into `body`. None where the trace is over.
+fn read_entry(rt: &(impl Input + Eprint), body: &mut [u8]) -> Option<Shape>
     requires { length body.old ≡ BODY }
-    ensures { Lengths result.args result.state result.result × (length body.new ≡ BODY) }
+    ensures lengths { IfSome result (λ e. Lengths e.args e.state e.result) }
+    ensures kept { length body.new ≡ BODY }
 {
     let mut header = [0u8; HEADER];
     let got = streams::read_full(rt, &mut header);
+    if got == 0 {
+        return None;
+    }
     let spare = header[3];
     let args = length_at(&header, 4);
     let state = length_at(&header, 6);
     let result = length_at(&header, 8);
     let n = args + state + result;
     let read = streams::read_full(rt, &mut body[..n]);
-    Shape {
-        over: got == 0,
+    Some(Shape {
         whole: (got == HEADER) & (spare == 0) & (read == n),
         head: head_of(&header),
         args,
         state,
         result,
-    }
+    })
 }
 
 // What is found of an entry that was read.
+#[tactic(auto, unfolding(crate::specs::Run::found_of))]
 fn judged(e: Shape, body: &[u8], current: &[u8]) -> Part
     requires { Lengths e.args e.state e.result × (length body.now ≡ BODY) }
     ensures { result ≡ found_of e body.now current.now }
 {
-    let head = e.head;
     let a = e.args;
     let s = a + e.state;
     let r = s + e.result;
     if e.whole {
-        return judge(head, &body[..a], &body[a..s], &body[s..r], current);
+        return judge(e.head, &body[..a], &body[a..s], &body[s..r], current);
     }
     Part::Unread
 }
@@ -124,31 +124,13 @@ fn keep(e: Shape, n: usize, body: &[u8], current: &mut [u8]) -> usize
 fn is_same(part: Part) -> bool
     ensures { result ≡ is_same part }
 {
-    match part {
-        Part::Same => true,
-        Part::Unread => false,
-        Part::Refusal => false,
-        Part::Place => false,
-        Part::Answer => false,
-        Part::State(_) => false,
-        Part::Record(_) => false,
-        Part::Result(_) => false,
-    }
+    matches!(part, Part::Same)
 }
 
 fn is_unread(part: Part) -> bool
     ensures { result ≡ is_unread part }
 {
-    match part {
-        Part::Same => false,
-        Part::Unread => true,
-        Part::Refusal => false,
-        Part::Place => false,
-        Part::Answer => false,
-        Part::State(_) => false,
-        Part::Record(_) => false,
-        Part::Result(_) => false,
-    }
+    matches!(part, Part::Unread)
 }
 
 // The first difference is told, or each of them.
@@ -161,24 +143,19 @@ fn tell(rt: &(impl Print + Eprint), run: Run, each: bool, call: u8, part: Part) 
     }
 }
 
-fn one_if(b: bool) -> u64
-    ensures { result ≡ bit b }
-{
-    if b { 1 } else { 0 }
-}
-
 // The run after an entry.
+#[tactic(auto, unfolding(crate::specs::Run::after_of))]
 fn after(run: Run, e: Shape, part: Part, state: usize) -> Run
     requires { Lengths e.args e.state e.result }
     ensures { result ≡ after_of run e part state }
 {
-    let head = e.head;
     let n = (HEADER + e.args + e.state + e.result) as u64;
+    let makes_call = e.whole & (e.head.call != SET);
     Run {
-        entries: wrapping_add_u64(run.entries, 1),
-        offset: wrapping_add_u64(run.offset, n),
-        calls: wrapping_add_u64(run.calls, one_if(e.whole & (head.call != SET))),
-        differ: wrapping_add_u64(run.differ, one_if(!is_same(part))),
+        entries: run.entries.wrapping_add(1),
+        offset: run.offset.wrapping_add(n),
+        calls: run.calls.wrapping_add(makes_call as u64),
+        differ: run.differ.wrapping_add(!is_same(part) as u64),
         state,
     }
 }
@@ -195,24 +172,21 @@ fn turn(
     ensures { Buffers body.new current.new result.run.state
         × Turns run body.new (take run.state current.old) result }
 {
-    let e = read_entry(rt, body);
-    if e.over {
+    let Some(e) = read_entry(rt, body) else {
         return Turned { run, more: false };
-    }
+    };
     let n = run.state;
     let part = judged(e, body, &current[..n]);
     let state = keep(e, n, body, current);
-    let head = e.head;
-    tell(rt, run, each, head.call, part);
-    let next = after(run, e, part, state);
+    tell(rt, run, each, e.head.call, part);
     Turned {
-        run: next,
+        run: after(run, e, part, state),
         more: !is_unread(part),
     }
 }
 
 // The run over the entries of standard input. A proved loop has to end, and nothing says that the
-// input does: so it counts its turns down, from a number that no run uses up.
+// input does: so it counts its turns, up to a number that no run reaches.
 fn read_all(rt: &(impl Input + Print + Eprint), each: bool) -> Run
     ensures { Ran result }
 {
@@ -225,13 +199,12 @@ fn read_all(rt: &(impl Input + Print + Eprint), each: bool) -> Run
         differ: 0,
         state: 0,
     };
-    let mut more = true;
-    let mut turns = u64::MAX;
-    while more & (turns > 0) {
+    for _ in 0..u64::MAX {
         let t = turn(rt, run, each, &mut body, &mut current);
         run = t.run;
-        more = t.more;
-        turns -= 1;
+        if !t.more {
+            break;
+        }
     }
     run
 }

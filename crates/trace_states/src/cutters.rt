@@ -7,6 +7,7 @@ ghost use Rattle.trace_states.specs.Cutters.{CUTTER, MOVER, SLOTS, PLAYER, mover
 
 use cutter_ground::{CN, MAX_ENEMIES, Mover};
 use cutter_state::Cutter;
+use std::array;
 use trace_words::{MARK, PLACE, byte_of, fill, put_cells, put_pair, put_word, signed_of, word};
 
 pub const CUTTER: usize = 2157;
@@ -44,13 +45,11 @@ pub fn mover_of(bytes: &[u8], at: usize) -> Mover
     requires { at + MOVER ≤ length bytes.now }
     ensures { result ≡ mover_at at bytes.now }
 {
-    let vx = signed_of(bytes[at + 2]);
-    let vy = signed_of(bytes[at + 3]);
     Mover {
         x: bytes[at],
         y: bytes[at + 1],
-        vx,
-        vy,
+        vx: signed_of(bytes[at + 2]),
+        vy: signed_of(bytes[at + 3]),
     }
 }
 
@@ -59,20 +58,7 @@ fn movers_of(bytes: &[u8], at: usize) -> [Mover; MAX_ENEMIES]
     requires { at + SLOTS ≤ length bytes.now }
     ensures { result ≡ movers_at at bytes.now }
 {
-    let nobody = Mover {
-        x: 0,
-        y: 0,
-        vx: 0,
-        vy: 0,
-    };
-    let mut enemies = [nobody; MAX_ENEMIES];
-    let mut i: usize = 0;
-    while i < MAX_ENEMIES {
-        let e = mover_of(bytes, at + i * MOVER);
-        enemies[i] = e;
-        i += 1;
-    }
-    enemies
+    array::from_fn(|i| mover_of(bytes, at + i * MOVER))
 }
 
 // The state in its bytes.
@@ -82,14 +68,12 @@ pub fn cutter_of(bytes: &[u8]) -> Cutter
 {
     let mut grid = [0u8; CN];
     fill(bytes, 0, &mut grid);
-    let dx = signed_of(bytes[DX]);
-    let dy = signed_of(bytes[DY]);
     Cutter {
         grid,
         px: word(bytes, PX, PLACE) as usize,
         py: word(bytes, PY, PLACE) as usize,
-        dx,
-        dy,
+        dx: signed_of(bytes[DX]),
+        dy: signed_of(bytes[DY]),
         trailing: bytes[TRAILING] != 0,
         enemies: movers_of(bytes, ENEMIES),
         count: word(bytes, COUNT, PLACE) as usize,
@@ -104,39 +88,37 @@ fn put_mover(e: Mover, out: &mut [u8], at: usize)
     requires { at + MOVER ≤ length out.old }
     ensures { Lays (mover_bytes e) MOVER at out.old out.new }
 {
-    let vx = byte_of(e.vx);
-    let vy = byte_of(e.vy);
-    put_pair(e.x as u64, e.y as u64, 1, out, at);
-    put_pair(vx as u64, vy as u64, 1, out, at + 2);
+    put_pair(u64::from(e.x), u64::from(e.y), 1, out, at);
+    put_pair(
+        u64::from(byte_of(e.vx)),
+        u64::from(byte_of(e.vy)),
+        1,
+        out,
+        at + 2,
+    );
 }
 
 fn put_movers(enemies: [Mover; MAX_ENEMIES], out: &mut [u8], at: usize)
     requires { at + SLOTS ≤ length out.old }
     ensures { Lays (flat mover_bytes enemies) SLOTS at out.old out.new }
 {
-    let mut i: usize = 0;
-    while i < MAX_ENEMIES {
-        let e = enemies[i];
-        put_mover(e, out, at + i * MOVER);
-        i += 1;
+    for (i, e) in enemies.iter().enumerate() {
+        put_mover(*e, out, at + i * MOVER);
     }
-}
-
-fn put_grid(grid: [u8; CN], out: &mut [u8], at: usize)
-    requires { at + CN ≤ length out.old }
-    ensures { Lays grid CN at out.old out.new }
-{
-    put_cells(&grid, out, at);
 }
 
 fn put_player(c: Cutter, out: &mut [u8], at: usize)
     requires { at + PLAYER ≤ length out.old }
     ensures { Lays (player_bytes c) PLAYER at out.old out.new }
 {
-    let dx = byte_of(c.dx);
-    let dy = byte_of(c.dy);
     put_pair(c.px as u64, c.py as u64, PLACE, out, at);
-    put_pair(dx as u64, dy as u64, 1, out, at + 16);
+    put_pair(
+        u64::from(byte_of(c.dx)),
+        u64::from(byte_of(c.dy)),
+        1,
+        out,
+        at + 16,
+    );
     put_word(c.trailing as u64, 1, out, at + 18);
 }
 
@@ -145,11 +127,9 @@ pub fn put_cutter(c: Cutter, first: u32, second: u32, out: &mut [u8])
     requires { length out.old ≡ CUTTER }
     ensures { out.new ≡ cutter_bytes c first second }
 {
-    let grid = c.grid;
-    let enemies = c.enemies;
-    put_grid(grid, out, 0);
+    put_cells(&c.grid, out, 0);
     put_player(c, out, PX);
-    put_movers(enemies, out, ENEMIES);
+    put_movers(c.enemies, out, ENEMIES);
     put_word(c.count as u64, PLACE, out, COUNT);
     put_pair(c.level as u64, c.lives as u64, MARK, out, LEVEL);
     put_pair(c.dead as u64, c.won_level as u64, 1, out, DEAD);

@@ -7,6 +7,7 @@ ghost use Rattle.trace_words.specs.CodeLays.{Lays};
 ghost use Rattle.trace_states.specs.Mines.{MINE, ENEMY, SLOTS, enemy_at, enemies_at, falling_at, mine_of, enemy_bytes, mine_bytes};
 
 use mine_state::{AREA, Enemy, MAX_ENEMIES, Mine};
+use std::array;
 use trace_words::{MARK, PLACE, fill, put_cells, put_pair, put_word, word};
 
 pub const MINE: usize = 850;
@@ -55,15 +56,7 @@ fn enemies_of(bytes: &[u8], at: usize) -> [Enemy; MAX_ENEMIES]
     requires { at + SLOTS ≤ length bytes.now }
     ensures { result ≡ enemies_at at bytes.now }
 {
-    let nobody = Enemy { x: 0, y: 0, dir: 0 };
-    let mut enemies = [nobody; MAX_ENEMIES];
-    let mut i: usize = 0;
-    while i < MAX_ENEMIES {
-        let e = enemy_of(bytes, at + i * ENEMY);
-        enemies[i] = e;
-        i += 1;
-    }
-    enemies
+    array::from_fn(|i| enemy_of(bytes, at + i * ENEMY))
 }
 
 // A byte that is not 0 is a set flag.
@@ -71,13 +64,7 @@ fn falling_of(bytes: &[u8], at: usize) -> [bool; AREA]
     requires { at + AREA ≤ length bytes.now }
     ensures { result ≡ falling_at at bytes.now }
 {
-    let mut falling = [false; AREA];
-    let mut i: usize = 0;
-    while i < AREA {
-        falling[i] = bytes[at + i] != 0;
-        i += 1;
-    }
-    falling
+    array::from_fn(|i| bytes[at + i] != 0)
 }
 
 // The state in its bytes.
@@ -106,18 +93,15 @@ fn put_enemy(e: Enemy, out: &mut [u8], at: usize)
     ensures { Lays (enemy_bytes e) ENEMY at out.old out.new }
 {
     put_pair(e.x as u64, e.y as u64, PLACE, out, at);
-    put_word(e.dir as u64, 1, out, at + DIR);
+    put_word(u64::from(e.dir), 1, out, at + DIR);
 }
 
 fn put_enemies(enemies: [Enemy; MAX_ENEMIES], out: &mut [u8], at: usize)
     requires { at + SLOTS ≤ length out.old }
     ensures { Lays (flat enemy_bytes enemies) SLOTS at out.old out.new }
 {
-    let mut i: usize = 0;
-    while i < MAX_ENEMIES {
-        let e = enemies[i];
-        put_enemy(e, out, at + i * ENEMY);
-        i += 1;
+    for (i, e) in enemies.iter().enumerate() {
+        put_enemy(*e, out, at + i * ENEMY);
     }
 }
 
@@ -125,18 +109,9 @@ fn put_falling(falling: [bool; AREA], out: &mut [u8], at: usize)
     requires { at + AREA ≤ length out.old }
     ensures { Lays (map bit falling) AREA at out.old out.new }
 {
-    let mut i: usize = 0;
-    while i < AREA {
-        out[at + i] = falling[i] as u8;
-        i += 1;
+    for (i, falls) in falling.iter().enumerate() {
+        out[at + i] = u8::from(*falls);
     }
-}
-
-fn put_grid(grid: [u8; AREA], out: &mut [u8], at: usize)
-    requires { at + AREA ≤ length out.old }
-    ensures { Lays grid AREA at out.old out.new }
-{
-    put_cells(&grid, out, at);
 }
 
 // Puts a state and its marks into `out`.
@@ -144,13 +119,10 @@ pub fn put_mine(m: Mine, first: u32, second: u32, out: &mut [u8])
     requires { length out.old ≡ MINE }
     ensures { out.new ≡ mine_bytes m first second }
 {
-    let grid = m.grid;
-    let falling = m.falling;
-    let enemies = m.enemies;
-    put_grid(grid, out, 0);
-    put_falling(falling, out, FALLING);
+    put_cells(&m.grid, out, 0);
+    put_falling(m.falling, out, FALLING);
     put_pair(m.px as u64, m.py as u64, PLACE, out, PX);
-    put_enemies(enemies, out, ENEMIES);
+    put_enemies(m.enemies, out, ENEMIES);
     put_word(m.count as u64, PLACE, out, COUNT);
     put_pair(m.coins as u64, m.needed as u64, MARK, out, COINS);
     put_pair(m.dead as u64, m.won as u64, 1, out, DEAD);

@@ -4,7 +4,7 @@
 ghost use Rattle.std.specs.Prelude.{◌-◌, ◌≡◌};
 ghost use Rattle.trace_verdict.specs.Compare.{first_difference, RECORD, placed, theirs, rewritten, place_told, compared};
 
-use refusal::Refusal;
+use refusal::{Checked, Numbered};
 
 // The part of an entry that differs, with its first byte where it has several. Unread is an entry
 // that can't be read.
@@ -32,56 +32,36 @@ pub struct Head {
 // The clock marks at the end of a state.
 pub const RECORD: usize = 8;
 
-// Where two runs of bytes differ first.
-#[derive(Clone, Copy)]
-pub enum Difference {
-    From(usize),
-    Nowhere,
-}
-
 // The first place where two runs of bytes differ; the shorter's end where it is cut off.
-pub fn differs(a: &[u8], b: &[u8]) -> Difference
+pub fn differs(a: &[u8], b: &[u8]) -> Option<usize>
     ensures { result ≡ first_difference a.now b.now }
 {
-    let mut i: usize = 0;
-    while i < a.len() {
-        if b.len() <= i {
-            return Difference::From(i);
+    for (i, x) in a.iter().enumerate() {
+        if i >= b.len() || *x != b[i] {
+            return Some(i);
         }
-        if a[i] != b[i] {
-            return Difference::From(i);
-        }
-        i += 1;
     }
-    if i < b.len() {
-        return Difference::From(i);
+    if a.len() < b.len() {
+        return Some(a.len());
     }
-    Difference::Nowhere
-}
-
-// Where the record begins in a state of n bytes.
-fn record_start(n: usize) -> usize
-    ensures { result ≡ n - RECORD }
-{
-    if n < RECORD {
-        return 0;
-    }
-    n - RECORD
+    None
 }
 
 // The part that byte i of a state of n bytes belongs to.
+#[tactic(auto, unfolding(crate::specs::Compare::placed))]
 fn part_at(i: usize, n: usize) -> Part
     ensures { result ≡ placed n i }
 {
-    let start = record_start(n);
-    if i < start {
+    let record = n.saturating_sub(RECORD);
+    if i < record {
         return Part::State(i);
     }
-    Part::Record(i - start)
+    Part::Record(i - record)
 }
 
 // No state in the entry stands for an unchanged one.
-fn state_differs(ours: &[u8], current: &[u8], state: &[u8]) -> Difference
+#[tactic(auto, unfolding(crate::specs::Compare::theirs))]
+fn state_differs(ours: &[u8], current: &[u8], state: &[u8]) -> Option<usize>
     ensures { result ≡ first_difference (theirs current.now state.now) ours.now }
 {
     if state.len() == 0 {
@@ -91,35 +71,32 @@ fn state_differs(ours: &[u8], current: &[u8], state: &[u8]) -> Difference
 }
 
 // An unchanged state is not written.
+#[tactic(auto, unfolding(crate::specs::Compare::rewritten))]
 fn is_rewritten(current: &[u8], state: &[u8]) -> bool
     ensures { result ≡ rewritten current.now state.now }
 {
     if state.len() == 0 {
         return false;
     }
-    if let Difference::From(_) = differs(state, current) {
-        return false;
-    }
-    true
+    differs(state, current).is_none()
 }
 
 // A place from this one on is told as this one.
 pub const FAR: usize = 65535;
 
+#[tactic(auto, unfolding(crate::specs::Compare::place_told))]
 fn place_told(at: usize) -> usize
     ensures { result ≡ place_told at }
 {
-    if at < FAR {
-        return at;
-    }
-    FAR
+    at.min(FAR)
 }
 
 // The whole of an entry against what its call gave: the refusal and its place, the answer, the
 // state with its record, and what it told.
+#[tactic(auto, unfolding(crate::specs::Compare::compared))]
 pub fn compared_with(
     h: Head,
-    refusal: Refusal,
+    refusal: Checked,
     answer: u8,
     ours: &[u8],
     current: &[u8],
@@ -129,22 +106,23 @@ pub fn compared_with(
 ) -> Part
     ensures { result ≡ compared h current.now state.now res.now refusal answer ours.now told.now }
 {
-    if h.refusal != refusal.number {
+    let Numbered { number, at } = Numbered::from(refusal);
+    if h.refusal != number {
         return Part::Refusal;
     }
-    if h.place != place_told(refusal.at) {
+    if h.place != place_told(at) {
         return Part::Place;
     }
     if h.answer != answer {
         return Part::Answer;
     }
-    if let Difference::From(i) = state_differs(ours, current, state) {
+    if let Some(i) = state_differs(ours, current, state) {
         return part_at(i, ours.len());
     }
     if is_rewritten(current, state) {
         return Part::State(0);
     }
-    if let Difference::From(i) = differs(res, told) {
+    if let Some(i) = differs(res, told) {
         return Part::Result(i);
     }
     Part::Same

@@ -1,12 +1,11 @@
 -- Numbers read from their bytes, and signed bytes. Assumes nothing.
-use mathlib.Core.Path.{◌≡◌, ap, ◌∙◌}
-use mathlib.Core.List.{List, [], ◌∷◌, ◌++◌}
-use Prim.Native.Nat.{ℕ, zero, suc, ◌+◌, ◌-◌, ◌*◌, ◌/◌, ◌%◌, ◌^◌, ◌<◌, ◌≤◌}
+use mathlib.Core.Path.{◌≡◌, ap}
+use mathlib.Core.List.{List}
+use Prim.Native.Nat.{ℕ, zero, suc, ◌+◌, ◌-◌, ◌*◌, ◌/◌, ◌^◌, ◌<◌, ◌≤◌}
 use native.Mathlib.Nat.{div-div-eq-div-mul}
 use native.Mathlib.Numerals.{add-one}
 use native.Mathlib.Omega.{arith}
-use Rattle.trace_words.specs.Numbers.{byte_at, word_at, bytes_in}
-use Rattle.trace_words.proofs.Runs.{table-one}
+use Rattle.trace_words.specs.Numbers.{byte_at, word_at}
 
 -- one byte more in front
 pub word_more : (k at i : ℕ) (l : List ℕ) {n : ℕ} → at < i → i ≤ at + k → n ≡ word_at (at + k - i) i l → n * 256 + byte_at (i - 1) l ≡ word_at (at + k - (i - 1)) (i - 1) l
@@ -19,12 +18,6 @@ word_more k at i l h g e =
 pub word_none : (k at : ℕ) (l : List ℕ) → 0 ≡ word_at (at + k - (at + k)) (at + k) l
 unfolding word_at
 word_none k at l = let a : at + k - (at + k) ≡ 0 = omega arith in rw a
-
-pub word_whole : (k at i : ℕ) (l : List ℕ) {n : ℕ} → at ≤ i → i ≤ at → n ≡ word_at (at + k - i) i l → n ≡ word_at k at l
-word_whole k at i l h g e =
-    let a : i ≡ at = omega arith in
-    let b : at + k - at ≡ k = omega arith in
-    e ∙ rw (a, b)
 
 -- a number of at most 7 bytes leaves room for one more
 pub pow_up : (j : ℕ) → j ≤ 7 → 256 ^ j ≤ 256 ^ 7
@@ -43,9 +36,6 @@ below_more k at i n b h g e f =
     let a : at + k - (i - 1) ≡ suc (at + k - i) = omega arith in
     rw a (omega arith)
 
-pub below_end : (k at i n : ℕ) → at ≤ i → i ≤ at → n < 256 ^ (at + k - i) → n < 256 ^ k
-below_end k at i n h g e = let a : at + k - i ≡ k = omega arith in rw a at e
-
 pub pow_positive : (k at : ℕ) → 0 < 256 ^ (at + k - (at + k))
 pow_positive k at = let a : at + k - (at + k) ≡ 0 = omega arith in rw a (omega arith)
 
@@ -55,8 +45,3 @@ rest_more n i e = rw (e, add-one i, div-div-eq-div-mul n (256 ^ i) 256) (ap (λ 
 
 pub rest-none : (n : ℕ) → n ≡ n / 256 ^ 0
 rest-none n = omega arith
-
--- one byte more behind
-pub byte_more : (n i : ℕ) {rest : ℕ} → rest ≡ n / 256 ^ i → bytes_in i n ++ (rest % 256 ∷ []) ≡ bytes_in (i + 1) n
-unfolding bytes_in
-byte_more n i e = rw e (table-one (λ (j : ℕ). n / 256 ^ j % 256) i)

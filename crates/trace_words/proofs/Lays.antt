@@ -1,12 +1,11 @@
 -- Bytes laid one behind the other. Assumes nothing.
-use mathlib.Core.List.{List, [], ◌∷◌, ◌++◌, append_assoc, append-nil}
+use mathlib.Core.List.{List, [], ◌++◌, append_assoc, append-nil}
 use mathlib.Core.Path.{◌≡◌, refl, sym, ap, ◌∙◌, subst}
-use Prim.Native.Nat.{ℕ, ◌+◌, ◌<◌}
+use Prim.Native.Nat.{ℕ, ◌+◌}
 use native.Mathlib.Nat.{add-zero, zero-add, add_assoc}
-use native.Mathlib.Numerals.{add-one}
 use native.Mathlib.Omega.{arith}
-use lib.ListN.{length, take, set, length-append, length-set}
-use lib.Seq.{take-suc-set, take_all}
+use lib.ListN.{length, take, length-append}
+use lib.Seq.{take_all}
 use Rattle.trace_words.specs.CodeLays.{Lays}
 
 pub lays-none : (at : ℕ) (l : List ℕ) → Lays [] 0 at l l
@@ -19,14 +18,6 @@ lays-both {s} {t} {j} {k} {at} {l} p q =
       size = q.size ∙ p.size;
       holds = rw (← add_assoc at j k) (q.holds ∙ ap (λ (x : List ℕ). x ++ t) p.holds ∙ append_assoc (take at l) s t);
     }
-
--- a byte stored
-pub lays_byte : (l : List ℕ) (at b : ℕ) → at < length l → Lays (b ∷ []) 1 at l (set l at b)
-lays_byte l at b h = record { long = refl; size = length-set l at b; holds = rw (add-one at) (take-suc-set l at b h) }
-
--- one byte more, where the text with it is the one that is wanted
-pub lays_more : (b : ℕ) {s t : List ℕ} {i at : ℕ} {l m : List ℕ} → at + i < length l → s ++ (b ∷ []) ≡ t → Lays s i at l m → Lays t (i + 1) at l (set m (at + i) b)
-lays_more b {s} {t} {i} {at} {l} {m} h e p = subst (λ (x : List ℕ). Lays x (i + 1) at l (set m (at + i) b)) e (lays-both p (lays_byte m (at + i) b (omega (arith, p.size))))
 
 -- the same text, told otherwise
 pub lays_as : {s t : List ℕ} {j k at : ℕ} {l m : List ℕ} → s ≡ t → j ≡ k → Lays s j at l m → Lays t k at l m

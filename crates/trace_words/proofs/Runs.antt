@@ -1,29 +1,27 @@
 -- Runs of elements as bytes, one element more at a time. Assumes nothing.
-use mathlib.Core.List.{List, [], ◌∷◌, ◌++◌, map, append_assoc, append-nil}
-use mathlib.Core.Path.{◌≡◌, refl, sym, ap, ◌∙◌}
-use Prim.Native.Nat.{ℕ, ◌+◌, ◌*◌, ◌<◌, ◌≤◌}
+use mathlib.Core.List.{List, [], ◌∷◌, ◌++◌, append_assoc, append-nil}
+use mathlib.Core.Path.{◌≡◌, refl, sym, ap, ◌∙◌, subst}
+use Prim.Native.Nat.{ℕ, zero, suc, ◌+◌, ◌*◌, ◌<◌, ◌≤◌}
 use native.Mathlib.Numerals.{add-one}
 use native.Mathlib.Omega.{arith}
+use borrow.Author.Rules.{rules}
 use lib.ListN.{length, take, get_or, set}
 use lib.Seq.{take-suc, take-suc-set, take_all}
+use native.Mathlib.Decide.{dec_lt}
+use denote.Param.Members.{Mut, Called}
+use Rattle.std.specs.Array.{IsFromFnResult, IsFromFnResultFrom}
+use Rattle.std.proofs.lemmas.List.{same_lists}
+use Rattle.std.specs.List.{between}
+use Rattle.std.proofs.lemmas.Grind.{same_number_lists}
+use Rattle.std.proofs.lemmas.List.Edits.{length-between, get_or-between}
 use Rattle.laws.specs.Lists.{table}
-use Rattle.trace_words.specs.Numbers.{flat}
+use Rattle.laws.proofs.Table.{length-table, get_or-table_lem}
+use Rattle.trace_words.specs.Numbers.{byte_at, cells_at, flat}
 use Rattle.trace_words.specs.CodeLays.{Lays}
 use Rattle.trace_words.proofs.Lays.{lays-both, lays_as}
 
-pub take_more : {A : Type 0} (l : List A) (i : ℕ) (d : A) → i < length l → take i l ++ (get_or l i d ∷ []) ≡ take (i + 1) l
+take_more : {A : Type 0} (l : List A) (i : ℕ) (d : A) → i < length l → take i l ++ (get_or l i d ∷ []) ≡ take (i + 1) l
 take_more l i d h = rw (add-one i) (sym (take-suc l i d h))
-
-pub table-one : {A : Type 0} (f : ℕ → A) (i : ℕ) → table i f ++ (f i ∷ []) ≡ table (i + 1) f
-unfolding table
-table-one f i = rw (add-one i)
-
-map-append : {A B : Type 0} (f : A → B) (s t : List A) → map f (s ++ t) ≡ map f s ++ map f t
-map-append f [] t = refl
-map-append f (x ∷ s) t = ap (λ l. f x ∷ l) (map-append f s t)
-
-pub map_more : {A B : Type 0} (f : A → B) (l : List A) (i : ℕ) (d : A) → i < length l → map f (take i l) ++ (f (get_or l i d) ∷ []) ≡ map f (take (i + 1) l)
-map_more f l i d h = sym (map-append f (take i l) (get_or l i d ∷ [])) ∙ ap (map f) (take_more l i d h)
 
 module _ {A : Type 0} (f : A → List ℕ) where
   flat_append : (s t : List A) → flat f (s ++ t) ≡ flat f s ++ flat f t
@@ -43,8 +41,9 @@ module _ {A : Type 0} (f : A → List ℕ) where
       → Lays (f (get_or l i d)) k (at + i * k) m n → Lays (flat f (take (i + 1) l)) ((i + 1) * k) at b n
   slots-more l i k d h p q = lays_as (flat-more l i d h) (omega arith) (lays-both p q)
 
-  pub slots_end : (l : List A) (i n k : ℕ) {at : ℕ} {b m : List ℕ} → length l ≤ i → i * k ≡ n → Lays (flat f (take i l)) (i * k) at b m → Lays (flat f l) n at b m
-  slots_end l i n k h e p = lays_as (ap (flat f) (take_all i l h)) e p
+table-one : {A : Type 0} (f : ℕ → A) (i : ℕ) → table i f ++ (f i ∷ []) ≡ table (i + 1) f
+unfolding table
+table-one f i = rw (add-one i)
 
 -- A loop that fills a list from the front with the values of f: at its start, a turn, and its end.
 module _ {A : Type 0} (f : ℕ → A) (l : List A) where
@@ -57,3 +56,26 @@ module _ {A : Type 0} (f : ℕ → A) (l : List A) where
 
   pub filled_whole : (n i : ℕ) → length l ≡ n → i ≡ n → take i l ≡ table i f → l ≡ table n f
   filled_whole n i h q e = sym (take_all i l (omega arith)) ∙ e ∙ ap (λ (k : ℕ). table k f) q
+
+-- the cells from a place on are a part of the bytes
+pub cells_range : (n at : ℕ) (l : List ℕ) → at + n ≤ length l → between at (at + n) l ≡ cells_at n at l
+unfolding cells_at
+cells_range n at l h =
+    let f : ℕ → ℕ = λ i. byte_at (at + i) l in
+    let e : length (between at (at + n) l) ≡ n = search (rules, length-between) in
+    same_number_lists _ _ (e ∙ sym (length-table n f)) (λ k g. get_or-between l at (at + n) k 0 (omega (arith, e, g)) ∙ sym (get_or-table_lem n f k 0 (omega (arith, e, g))))
+
+-- an array that a closure gives by its index, where a call changes nothing
+module _ {F A : Type 0} (g : Mut F (ℕ × Unit {0}) A) (f : F) (h : ℕ → A) (step : (i : ℕ) (y : A) (q : F) → Called g f (i, tt) y q → (q ≡ f) × (y ≡ h i)) where
+  made_at : (ys : List A) (i n : ℕ) → IsFromFnResultFrom g f ys i n → (k : ℕ) (d : A) → i ≤ k → k < i + n → get_or ys k d ≡ h k
+  made_at ys i zero m k d a b = absurd (omega arith)
+  made_at ys i (suc n) m k d a b =
+      let t = step i m.1 m.0 m.3 in
+      elim (dec_lt i k) [
+        | yes l ↦ made_at ys (i + 1) n (subst (λ p. IsFromFnResultFrom g p ys (i + 1) n) t.0 m.4) k d (omega arith) (omega arith)
+        | no l ↦ let e : k ≡ i = omega arith in rw e (m.2.1 d ∙ t.1)
+      ]
+
+  pub made_table : (ys : List A) (n : ℕ) → IsFromFnResult g f ys n → ys ≡ table n h
+  made_table ys n m =
+      same_lists ys (table n h) (m.long ∙ sym (length-table n h)) (λ k d l. made_at ys 0 n m.each k d (omega arith) (omega (arith, m.long)) ∙ sym (get_or-table_lem n h k d (omega (arith, m.long))))

@@ -19,10 +19,8 @@ pub fn word(bytes: &[u8], at: usize, k: usize) -> u64
     ensures { Word k at bytes.now result }
 {
     let mut n: u64 = 0;
-    let mut i = at + k;
-    while at < i {
-        i -= 1;
-        n = n * BASE + bytes[i] as u64;
+    for i in (at..at + k).rev() {
+        n = n * BASE + u64::from(bytes[i]);
     }
     n
 }
@@ -33,11 +31,9 @@ pub fn put_word(n: u64, k: usize, out: &mut [u8], at: usize)
     ensures { Lays (bytes_in k n) k at out.old out.new }
 {
     let mut rest = n;
-    let mut i: usize = 0;
-    while i < k {
-        out[at + i] = (rest % BASE) as u8;
-        rest = rest / BASE;
-        i += 1;
+    for byte in &mut out[at..at + k] {
+        *byte = (rest % BASE) as u8;
+        rest /= BASE;
     }
 }
 
@@ -54,19 +50,13 @@ pub fn put_pair(n: u64, m: u64, k: usize, out: &mut [u8], at: usize)
 pub fn signed_of(b: u8) -> i8
     ensures { result ≡ signed_of b }
 {
-    if b < 128 {
-        return b as i8;
-    }
-    -1 - ((255 - b) as i8)
+    b.cast_signed()
 }
 
 pub fn byte_of(v: i8) -> u8
     ensures { result ≡ byte_of v }
 {
-    if v < 0 {
-        return 255 - ((-1 - v) as u8);
-    }
-    v as u8
+    v.cast_unsigned()
 }
 
 // Fills cells with the bytes from `at` on.
@@ -74,11 +64,7 @@ pub fn fill(bytes: &[u8], at: usize, cells: &mut [u8])
     requires { at + length cells.old ≤ length bytes.now }
     ensures { cells.new ≡ cells_at (length cells.old) at bytes.now }
 {
-    let mut i: usize = 0;
-    while i < cells.len() {
-        cells[i] = bytes[at + i];
-        i += 1;
-    }
+    cells.copy_from_slice(&bytes[at..at + cells.len()]);
 }
 
 // Puts cells at `at`.
@@ -86,9 +72,5 @@ pub fn put_cells(cells: &[u8], out: &mut [u8], at: usize)
     requires { at + length cells.now ≤ length out.old }
     ensures { Lays cells.now (length cells.now) at out.old out.new }
 {
-    let mut i: usize = 0;
-    while i < cells.len() {
-        out[at + i] = cells[i];
-        i += 1;
-    }
+    out[at..at + cells.len()].copy_from_slice(cells);
 }

@@ -34,13 +34,14 @@ fn tell_sweeps(rt: &(impl Print + Eprint), grid: &[u8; CN], nums: &mut [u16; CN]
     ensures { Settled grid.now nums.new }
 {
     cutter_sweeps::own_numbers(grid, nums);
-    let mut changed: u16 = 1;
     let mut k: u64 = 0;
-    while 0 < changed {
-        changed = cutter_sweeps::sweep_once(grid, nums);
+    loop {
+        let changed = cutter_sweeps::sweep_once(grid, nums);
         k += 1;
-        let left = cutter_sweeps::numbers_left(grid, nums);
-        tell_sweep(rt, k, changed, left);
+        tell_sweep(rt, k, changed, cutter_sweeps::numbers_left(grid, nums));
+        if changed == 0 {
+            return;
+        }
     }
 }
 
@@ -49,15 +50,7 @@ fn cells_of(nums: &[u16; CN], number: u16) -> u16
     requires { length nums.now ≡ CN }
     ensures { result ≡ tally number nums.now }
 {
-    let mut n: u16 = 0;
-    let mut i: usize = 0;
-    while i < CN {
-        if nums[i] == number {
-            n += 1;
-        }
-        i += 1;
-    }
-    n
+    nums.iter().filter(|n| **n == number).count() as u16
 }
 
 // The number of a cell, CN off the grid.
@@ -73,17 +66,10 @@ fn creatures_on(nums: &[u16; CN], enemies: [Mover; MAX_ENEMIES], count: usize, n
     requires { length nums.now ≡ CN }
     ensures { result ≡ on_number nums.now number (take count enemies) }
 {
-    let mut n: u16 = 0;
-    let mut i: usize = 0;
-    while i < MAX_ENEMIES {
-        let e = enemies[i];
-        let stands = number_at(nums, cutter_ground::cell_of(e)) == number;
-        if (i < count) & stands {
-            n += 1;
-        }
-        i += 1;
-    }
-    n
+    enemies[..count.min(MAX_ENEMIES)]
+        .iter()
+        .filter(|e| number_at(nums, cutter_ground::cell_of(**e)) == number)
+        .count() as u16
 }
 
 // What became of a region, from how many came before it and its earliest cell afterwards.
@@ -121,17 +107,14 @@ fn tell_regions(
     requires { (length nums.now ≡ CN) × (length after.now ≡ CN) }
 {
     let mut told: usize = 0;
-    let mut at: usize = 0;
-    while at < CN {
-        let number = at as u16;
-        if nums[at] == number {
-            let cells = cells_of(nums, number);
-            let creatures = creatures_on(nums, enemies, count, number);
+    for (at, number) in nums.iter().enumerate() {
+        if usize::from(*number) == at {
+            let cells = cells_of(nums, *number);
+            let creatures = creatures_on(nums, enemies, count, *number);
             tell_region(rt, at, cells, creatures);
             tell_end(rt, told, after[at]);
             told += 1;
         }
-        at += 1;
     }
 }
 
@@ -141,7 +124,5 @@ pub fn tell_closing(rt: &(impl Print + Eprint), c: Cutter, game: Cutter) {
     cutter_capture::claim_line(&mut grid);
     let mut nums = [0u16; CN];
     tell_sweeps(rt, &grid, &mut nums);
-    let enemies = c.enemies;
-    let after = game.grid;
-    tell_regions(rt, &nums, enemies, c.count, &after);
+    tell_regions(rt, &nums, c.enemies, c.count, &game.grid);
 }

@@ -10,17 +10,11 @@ mod lesson;
 
 use cutter_state::Cutter;
 use lesson::tell_closing;
-use lines::{cut_byte, cut_numbers, cut_start};
+use lines::{Said, cut_byte, cut_numbers, cut_start};
 use text::{LINE, Says};
 
 // Bytes read at a time.
 const READ: usize = 256;
-
-#[derive(Clone, Copy)]
-struct Turn {
-    game: Cutter,
-    more: bool,
-}
 
 // The line that `cuts` prints; false where that failed.
 fn tell_line(rt: &(impl Print + Eprint), says: Says, game: Cutter) -> bool {
@@ -31,62 +25,45 @@ fn tell_line(rt: &(impl Print + Eprint), says: Says, game: Cutter) -> bool {
 
 // Only a step that closes a cut ends the line.
 fn tell_step(rt: &(impl Print + Eprint), c: Cutter, game: Cutter) {
-    if game.trailing {
-        return;
-    }
-    if c.trailing {
+    if c.trailing && !game.trailing {
         tell_closing(rt, c, game);
     }
 }
 
-fn play_byte(rt: &(impl Print + Eprint), c: Cutter, b: u8) -> Turn {
-    let said = cut_byte(c, b);
-    let says = said.says;
-    let game = said.game;
+// The game after a byte; none where its line could not be written.
+fn play_byte(rt: &(impl Print + Eprint), c: Cutter, b: u8) -> Option<Cutter> {
+    let Said { says, game } = cut_byte(c, b);
     if b == b's' {
         tell_step(rt, c, game);
     }
-    let more = tell_line(rt, says, game);
-    Turn { game, more }
+    tell_line(rt, says, game).then_some(game)
 }
 
-fn play_bytes(rt: &(impl Print + Eprint), c: Cutter, bytes: &[u8]) -> Turn {
+fn play_bytes(rt: &(impl Print + Eprint), c: Cutter, bytes: &[u8]) -> Option<Cutter> {
     let mut game = c;
-    let mut i: usize = 0;
-    while i < bytes.len() {
-        let turn = play_byte(rt, game, bytes[i]);
-        if !turn.more {
-            return turn;
-        }
-        game = turn.game;
-        i += 1;
+    for b in bytes {
+        game = play_byte(rt, game, *b)?;
     }
-    Turn { game, more: true }
+    Some(game)
 }
 
-// Reads once and plays what came; answers whether there may be more.
-fn take_turn(rt: &(impl Input + Print + Eprint), c: Cutter) -> Turn {
+// Reads once and plays what came; none where there is no more to play.
+fn take_turn(rt: &(impl Input + Print + Eprint), c: Cutter) -> Option<Cutter> {
     let mut input = [0u8; READ];
     let n = streams::read(rt, &mut input);
     if n == 0 {
-        return Turn {
-            game: c,
-            more: false,
-        };
+        return None;
     }
     play_bytes(rt, c, &input[..n])
 }
 
-// To the end of the input; turns are counted down from a number that no run uses up.
+// To the end of the input: in more turns than any run uses up.
 fn main(rt: HostRuntime) {
     let mut c = cut_start();
-    let mut turns = u64::MAX;
-    while turns > 0 {
-        let turn = take_turn(&rt, c);
-        if !turn.more {
+    for _ in 0..u64::MAX {
+        let Some(game) = take_turn(&rt, c) else {
             return;
-        }
-        c = turn.game;
-        turns -= 1;
+        };
+        c = game;
     }
 }

@@ -1,14 +1,10 @@
 use mathlib.Core.List.{◌++◌}
 use mathlib.Core.Path.{◌≡◌}
-use Prim.Native.Nat.{◌-◌, ◌≤◌}
-use lib.ListN.{length, take, drop}
+use lib.ListN.{take, drop}
 use Rattle.console_keys.specs.Keys.{keys_of, waits_of}
 use Rattle.console_keys.proofs.hear.Given as goal
 
-abbrev pub invariant-loop-i : goal.invariant-loop-i
-invariant-loop-i l =
-    (l.i ≤ length l.initial.bytes) × (length l.bytes ≡ length l.initial.bytes) × (take l.i l.bytes ++ keys_of l.open (drop l.i l.bytes) ≡ keys_of l.waits l.initial.bytes) ×
-    (waits_of l.open (drop l.i l.bytes) ≡ waits_of l.waits l.initial.bytes)
-
-abbrev pub decreases-loop-i : goal.decreases-loop-i
-decreases-loop-i l = length l.initial.bytes - l.i
+abbrev pub invariant-loop-byte : goal.invariant-loop-byte
+invariant-loop-byte l =
+    (take l.byte-index l.byte-items ++ keys_of l.open (drop l.byte-index l.byte-items) ≡ keys_of l.waits l.initial.byte-items) ×
+    (waits_of l.open (drop l.byte-index l.byte-items) ≡ waits_of l.waits l.initial.byte-items)

@@ -1,7 +1,7 @@
 use native.Mathlib.Omega.{arith}
 use mathlib.Core.List.{List}
 use mathlib.Core.Path.{◌≡◌, ap, ◌∙◌}
-use Prim.Native.Nat.{ℕ, ◌-◌, ◌*◌, ◌/◌, ◌<◌}
+use Prim.Native.Nat.{ℕ, ◌+◌, ◌-◌, ◌*◌, ◌/◌, ◌<◌}
 use lib.ListN.{length, take, drop}
 use borrow.Author.Tests.{lt-ltb}
 use Rattle.laws.proofs.Table.{length-table}
@@ -52,3 +52,12 @@ pub returns : goal.returns
 returns c =
     let a = c.args in
     parts_end (stands_at a.x a.y) (enemies_in a.list.now) c.loop-from.from c.loop-from.invariant (omega (arith, all_of a.list.now))
+
+-- the last part
+pub returns-2 : goal.returns-2
+returns-2 c =
+    let a = c.args in
+    let l = enemies_in a.list.now in
+    let from = c.loop-from.from in
+    let more = part_more (stands_at a.x a.y) l MAX_ENEMIES from _ _ c.loop-from.invariant (asked (goal.at.returns-2 c).After-who_of) (omega (arith, all_of a.list.now)) in
+    parts_end (stands_at a.x a.y) l (from + MAX_ENEMIES) (c.both-found.ensures ∙ more) (omega (arith, all_of a.list.now))

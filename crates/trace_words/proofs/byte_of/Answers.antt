@@ -1,8 +1,9 @@
-use Rattle.trace_words.proofs.Signs.{back_byte, on_byte}
+use mathlib.Core.Path.{ap, ◌∙◌}
+use mir.Syntax.{w8}
+use mir.Val.{of_z}
+use mir.ValLaws.{to_z-of_z}
+use Rattle.trace_words.proofs.Signs.{unsigned}
 use Rattle.trace_words.proofs.byte_of.Goals as goal
 
-pub returns-then-v-lt0 : goal.returns-then-v-lt0
-returns-then-v-lt0 c = back_byte c.args.v c.ranges.v c.if-v-lt0.true
-
 pub returns : goal.returns
-returns c = on_byte c.args.v c.ranges.v c.if-v-lt0.false
+returns c = c.cast_unsigned.ensures ∙ ap (of_z w8) (to_z-of_z w8 c.args.v c.ranges.v) ∙ unsigned c.args.v

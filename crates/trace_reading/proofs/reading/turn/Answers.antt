@@ -7,11 +7,11 @@ pub returns : goal.returns
 unfolding after_of after_entry
 returns g c =
     let l = length-take-le c.args.run.state c.args.current.now (omega (arith, c.requires.room, c.requires.inside)) in (
-      rw c.after-next.ensures c.keep-state.ensures.0,
+      rw c.after.ensures c.keep-state.ensures.0,
       inr (
-        c.read_entry-e.result,
+        c.in-Some.e,
         record {
-          next = rw (l, sym c.judged-part.ensures, sym c.keep-state.ensures.1) c.after-next.ensures;
+          next = rw (l, sym c.judged-part.ensures, sym c.keep-state.ensures.1) c.after.ensures;
           more = ap not (c.is_unread.ensures ∙ ap is_unread c.judged-part.ensures);
         },
       ),

@@ -5,11 +5,11 @@ use Rattle.trace_states.proofs.cutters.cutter_of.Goals as goal
 pub returns : goal.returns
 unfolding cutter_of
 returns c =
-    simp (kept-below c.signed_of-dx.result c.signed_of-dx.type_inv, kept-below c.signed_of-dy.result c.signed_of-dy.type_inv)
+    simp (kept-below c.signed_of.result c.signed_of.type_inv, kept-below c.signed_of-2.result c.signed_of-2.type_inv)
     (simp (
       c.fill.ensures,
-      c.signed_of-dx.ensures,
-      c.signed_of-dy.ensures,
+      c.signed_of.ensures,
+      c.signed_of-2.ensures,
       c.word.ensures.is,
       c.word-2.ensures.is,
       c.movers_of.ensures,

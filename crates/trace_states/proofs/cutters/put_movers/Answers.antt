@@ -1,23 +1,13 @@
-use borrow.Author.Rules.{rules}
 use native.Mathlib.Omega.{arith}
-use mathlib.Core.Path.{◌≡◌}
-use lib.ListN.{length}
-use Rattle.laws.proofs.Lists.{mapped}
 use Rattle.trace_words.specs.Numbers.{flat}
-use Rattle.trace_states.specs.Cutters.{MOVER, mover_bytes}
 use Rattle.trace_words.proofs.Lays.{lays-none}
 use Rattle.trace_words.proofs.Runs.{slots-more}
-use Rattle.cutter_ground.specs.Movers.{MAX_ENEMIES}
+use Rattle.trace_states.specs.Cutters.{MOVER, mover_bytes}
 use Rattle.trace_states.proofs.cutters.put_movers.Goals as goal
 
 pub loop-i-init : goal.loop-i-init
 unfolding flat
-loop-i-init c = (omega arith, lays-none c.args.at c.args.out.now)
+loop-i-init c = lays-none c.args.at c.args.out.now
 
 pub loop-i-preserved : goal.loop-i-preserved
-loop-i-preserved c =
-    let s = c.loop-i in
-    let a = c.args in
-    let p = c.put_mover in
-    let z : length a.enemies ≡ MAX_ENEMIES = search (rules, mapped) in
-    (omega arith, slots-more mover_bytes a.enemies s.i MOVER _ (omega arith) s.invariant.1 p.ensures)
+loop-i-preserved c = slots-more mover_bytes c.args.enemies c.loop-i.i MOVER _ (omega arith) c.loop-i.invariant c.put_mover.ensures

@@ -1,18 +1,19 @@
 use native.Mathlib.Omega.{arith}
-use Rattle.cutter_sweeps.proofs.Sweeping.{settling_start, settling_more}
+use Rattle.cutter_sweeps.proofs.Sweeping.{reached_start, reached_more, reached_numbers}
 use Rattle.trainer.proofs.Sweeping.{sweeps-most}
 use Rattle.trainer.proofs.lesson.tell_sweeps.Goals as goal
 
-pub loop-changed-init : goal.loop-changed-init
-loop-changed-init g c = let s = settling_start c.requires.cells c.own_numbers.ensures in (s, omega (arith, sweeps-most s.cells s.reached))
+pub loop-k-init : goal.loop-k-init
+loop-k-init g c = let r = reached_start c.requires.cells c.own_numbers.ensures in (r, omega (arith, sweeps-most r.cells r.swept))
 
-pub numbers_left-left-requires : goal.numbers_left-left-requires
-numbers_left-left-requires g c =
-    let s = settling_more c.loop-changed.invariant.0 c.sweep_once-changed.ensures in
-    record { cells = s.cells; swept = s.reached }
+pub sweep_once-changed-requires : goal.sweep_once-changed-requires
+sweep_once-changed-requires g c = reached_numbers c.loop-k.invariant.0
 
-pub loop-changed-preserved : goal.loop-changed-preserved
-loop-changed-preserved g c =
-    let l = c.loop-changed.invariant in
+pub numbers_left-requires : goal.numbers_left-requires
+numbers_left-requires g c = reached_more c.loop-k.invariant.0 c.sweep_once-changed.ensures
+
+pub loop-k-preserved : goal.loop-k-preserved
+loop-k-preserved g c =
+    let p = c.loop-k.invariant in
     let w = c.sweep_once-changed.ensures in
-    (settling_more l.0 w, omega (arith, w.falls, l.1, c.loop-changed-test.true))
+    (reached_more p.0 w, omega (arith, w.falls, p.1))
