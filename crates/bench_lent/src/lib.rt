@@ -9,7 +9,7 @@ ghost use Rattle.cutter_moves.specs.CodeMoves.{Ticks, tick_of};
 ghost use Rattle.cutter_moves.specs.CodeSteps.{playing, Walks, SteppedOn};
 
 use cutter_ground::{CN, MAX_ENEMIES, Mover};
-use cutter_moves::{Moved, Step};
+use cutter_moves::{Moved, Player, Step};
 
 // The creatures, as a C struct holds them.
 #[repr(C)]
@@ -45,5 +45,13 @@ pub extern "C" fn rule_cutter_step_on(
     ensures { SteppedOn grid.old movers.enemies count (playing grid.old px py dx dy trailing dead) result grid.new }
 {
     let enemies = movers.enemies;
-    cutter_moves::step_on(grid, enemies, count, px, py, dx, dy, trailing, dead)
+    let player = Player {
+        px,
+        py,
+        dx,
+        dy,
+        trailing,
+        dead,
+    };
+    cutter_moves::step_on(grid, enemies, count, player)
 }

@@ -25,12 +25,12 @@ pub extern "C" fn rule_mine_step_on(
         (record { px = px; py = py; coins = coins; needed = needed; dead = dead; won = won }) dir grid.new result }
 {
     let p = Player {
-        px: px,
-        py: py,
-        coins: coins,
-        needed: needed,
-        dead: dead,
-        won: won,
+        px,
+        py,
+        coins,
+        needed,
+        dead,
+        won,
     };
     mine_moves::step_on(grid, spots, p, dir)
 }

@@ -1,6 +1,7 @@
 // Block Cutter.
 ghost use Rattle.std.specs.Prelude.{true, ◌≡◌};
 ghost use Rattle.frame.specs.Frame.{pack};
+ghost use Rattle.refusal.specs.Refusal.{numbered_of};
 ghost use Rattle.cutter_border.specs.CodeBorder.{to_border};
 ghost use Rattle.cutter_state.specs.WellFormed.{WellFormed, refusal_of};
 ghost use Rattle.cutter_rules.specs.Level.{draws_ok, creatures_of, fresh_level};
@@ -14,7 +15,7 @@ ghost use Rattle.cutter_ground.specs.Cells.{place};
 use cutter_ground::CW;
 use cutter_rules::Made;
 use cutter_state::Cutter;
-use refusal::Refusal;
+use refusal::Numbered;
 
 // The copies of a state in and out, and nothing else.
 #[unsafe(no_mangle)]
@@ -25,10 +26,10 @@ pub extern "C" fn copy_cutter(c: Cutter) -> Cutter
 }
 
 #[unsafe(no_mangle)]
-pub extern "C" fn check_cutter(c: Cutter) -> Refusal
-    ensures { result ≡ refusal_of c }
+pub extern "C" fn check_cutter(c: Cutter) -> Numbered
+    ensures { result ≡ numbered_of (refusal_of c) }
 {
-    cutter_check::check(c)
+    Numbered::from(cutter_check::check(c))
 }
 
 #[unsafe(no_mangle)]
@@ -77,8 +78,7 @@ pub extern "C" fn rule_cutter_walk(c: Cutter) -> usize
     ensures { result ≡ (to_border c.grid (place c.px c.py)).at }
 {
     let start = c.py * CW + c.px;
-    let w = cutter_border::move_to_border(&c.grid, start);
-    w.at
+    cutter_border::move_to_border(&c.grid, start).at
 }
 
 #[unsafe(no_mangle)]

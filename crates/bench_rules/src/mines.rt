@@ -1,6 +1,7 @@
 // Block Mine.
 ghost use Rattle.std.specs.Prelude.{◌≡◌};
 ghost use Rattle.frame.specs.Frame.{pack};
+ghost use Rattle.refusal.specs.Refusal.{numbered_of};
 ghost use Rattle.mine_state.specs.WellFormed.{WellFormed, refusal_of};
 ghost use Rattle.mine_rules.specs.Load.{loaded};
 ghost use Rattle.mine_rules.specs.Move.{moved};
@@ -10,7 +11,7 @@ ghost use Rattle.mine_picture.specs.Picture.{mine_lit};
 ghost use Rattle.mine_picture.specs.CodePicture.{Drawable};
 
 use mine_state::Mine;
-use refusal::Refusal;
+use refusal::Numbered;
 
 // The copies of a state in and out, and nothing else.
 #[unsafe(no_mangle)]
@@ -21,10 +22,10 @@ pub extern "C" fn copy_mine(m: Mine) -> Mine
 }
 
 #[unsafe(no_mangle)]
-pub extern "C" fn check_mine(m: Mine) -> Refusal
-    ensures { result ≡ refusal_of m }
+pub extern "C" fn check_mine(m: Mine) -> Numbered
+    ensures { result ≡ numbered_of (refusal_of m) }
 {
-    mine_check::check(m)
+    Numbered::from(mine_check::check(m))
 }
 
 #[unsafe(no_mangle)]

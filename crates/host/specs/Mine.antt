@@ -1,6 +1,5 @@
 -- Block Mine's calls as C gets them: refused for a byte that is no flag, or answered as the public call answers.
-use Rattle.refusal.specs.declared.Refusal.{Refusal}
-use Rattle.refusal.specs.Refusal.{refused_or}
+use Rattle.refusal.specs.Refusal.{Checked, numbered_of, refused_or}
 use Rattle.answer.specs.Answer.{GOING_ON, number_of}
 use Rattle.pace.specs.declared.Pace.{Pace}
 use Rattle.mine_pass.specs.declared.MineTurn.{MineTurn}
@@ -13,25 +12,25 @@ use Rattle.host.specs.declared.mine_calls.HostMinePassed.{HostMinePassed}
 
 -- an answer with the host's state
 abbrev pub answer_out : MineAnswer → HostMineAnswer
-answer_out a = record { refusal = a.refusal; game = host_of a.game }
+answer_out a = record { refusal = numbered_of a.refusal; game = host_of a.game }
 
 -- a pass's answer by its number, with the marks that it leaves
 abbrev pub turn_out : MineTurn → HostMinePassed
 turn_out t =
     record {
-      refusal = t.passed.refusal;
+      refusal = numbered_of t.passed.refusal;
       answer = number_of t.passed.answer;
       marks = marks_of t;
       game = host_of t.passed.game;
     }
 
 -- refused: the number with its place, and the state as it came
-abbrev pub refused : HostMine → Refusal → HostMineAnswer
-refused h n = record { refusal = n; game = h }
+abbrev pub refused : HostMine → Checked → HostMineAnswer
+refused h n = record { refusal = numbered_of n; game = h }
 
 -- a refused pass goes on, with state and marks as they came
-abbrev pub refused_pass : HostMine → Pace → Refusal → HostMinePassed
-refused_pass h marks n = record { refusal = n; answer = GOING_ON; marks = marks; game = h }
+abbrev pub refused_pass : HostMine → Pace → Checked → HostMinePassed
+refused_pass h marks n = record { refusal = numbered_of n; answer = GOING_ON; marks = marks; game = h }
 
 -- a call on a state
 unfoldable pub hosted : HostMine → MineAnswer → HostMineAnswer

@@ -6,7 +6,7 @@ mod mine_calls;
 mod plain_calls;
 
 pub use cutter_calls::{
-    HostCutterAnswer, HostCutterPassed, HostMovers, sumbadger_cutter_direction,
+    HostCutterAnswer, HostCutterPassed, HostGround, HostMovers, sumbadger_cutter_direction,
     sumbadger_cutter_ground_report, sumbadger_cutter_new_level, sumbadger_cutter_new_round,
     sumbadger_cutter_pass, sumbadger_cutter_render, sumbadger_cutter_respawn,
     sumbadger_cutter_step_by_sweeps, sumbadger_cutter_step_enemies, sumbadger_cutter_step_player,

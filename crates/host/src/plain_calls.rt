@@ -25,20 +25,22 @@ pub struct HostPage {
 }
 
 // The answer to 'who is there' in numbers.
-pub fn found_of(f: Found) -> HostFound
-    ensures { result ≡ found_of f }
-{
-    match f {
-        Found::At(i, n) => HostFound {
-            found: 1,
-            index: i,
-            number: n,
-        },
-        Found::Nobody => HostFound {
-            found: 0,
-            index: 0,
-            number: 0,
-        },
+impl From<Option<Found>> for HostFound {
+    ghost from_gives = { λ f h. h ≡ found_of f };
+
+    fn from(found: Option<Found>) -> HostFound {
+        match found {
+            Some(Found { index, number }) => HostFound {
+                found: 1,
+                index,
+                number,
+            },
+            None => HostFound {
+                found: 0,
+                index: 0,
+                number: 0,
+            },
+        }
     }
 }
 
@@ -52,6 +54,7 @@ pub extern "C" fn sumbadger_start(time: u32) -> Pace
 
 // Where page p stands in a frame of `size` bytes; start and length 0 for a number above 7 or a wrong length.
 #[unsafe(no_mangle)]
+#[tactic(auto, unfolding(crate::specs::Plain::page_at))]
 pub extern "C" fn sumbadger_page(size: usize, p: usize) -> HostPage
     ensures { result ≡ page_at size p }
 {

@@ -1,15 +1,16 @@
 -- A state that is written out and read back is the same, and no flag of it is refused; one whose flags are right is the same when it is read and written out. Assumes nothing.
-use mathlib.Core.Bool.{Bool, true, false, ◌&&◌, false≢true}
+use Rattle.std.specs.Int.{from_bool}
+use mathlib.Core.Bool.{Bool, true, false, ◌&&◌, false≢true, and-false}
 use mathlib.Core.List.{List, [], ◌∷◌, map}
 use mathlib.Core.Path.{◌≡◌, refl, sym, ◌∙◌}
-use Prim.Native.Nat.{ℕ, zero, suc, ◌<◌}
+use Prim.Native.Nat.{ℕ, zero, suc}
 use native.Mathlib.Omega.{arith}
-use lib.Dec.{lit<}
-use borrow.Author.Tests.{lt-leb, eqb-false}
+use borrow.Author.Tests.{lt-leb}
 use Rattle.laws.specs.Lists.{all}
-use Rattle.laws.proofs.Choice.{cond_both, and_left, and_right}
-use Rattle.refusal.specs.declared.Refusal.{Refusal}
-use Rattle.refusal.specs.Refusal.{NONE, CELLS, NUMBERS, clear, ◌then◌}
+use Rattle.laws.proofs.Choice.{and_left, and_right}
+use Rattle.refusal.specs.Refusal.{number_given, Checked, NONE, CELLS, NUMBERS, clear, unless, ◌then◌}
+use Rattle.refusal.specs.declared.Refusal.TheVariants.{Cells}
+use Rattle.refusal.proofs.Checks.{clear_then, clear-unless, clear_of}
 use Rattle.refusal.proofs.Calls.{then_none, unless-none}
 use Rattle.mine_state.specs.declared.Mine.{Mine}
 use Rattle.mine_state.specs.WellFormed as MW
@@ -22,6 +23,11 @@ use Rattle.host_state.specs.Mine as M
 use Rattle.host_state.specs.Cutter as C
 
 -- ---- a flag, and a list of them
+
+-- as a number, a flag is its byte
+pub from_flag : (f : Bool) → from_bool f ≡ byte_of f
+from_flag true = refl
+from_flag false = refl
 
 flag_byte : (f : Bool) → flag_of (byte_of f) ≡ f
 flag_byte true = refl
@@ -68,20 +74,23 @@ cutter_passes c = rw (byte_is_flag c.trailing, byte_is_flag c.dead, byte_is_flag
 
 -- ---- a state whose flags pass is written out as it came
 
-some_number : (r : Refusal) → 0 < (r then NUMBERS).number
-some_number r =
-    cond_both (λ (s : Refusal). 0 < s.number) (clear r) NUMBERS r (λ _. lit< tt) (λ e. omega (arith, eqb-false r.number 0 e))
+refused : (r : Checked) → clear (r then NUMBERS) ≡ false
+refused r = clear_then r NUMBERS ∙ and-false (clear r)
 
-pub mine_as_it_came : (h : HostMine) → (M.flags_of h).number ≡ 0 → M.host_of (M.game_of h) ≡ h
+-- the checks of the flags, the second behind what the state gets
+flags_right : (a b : Bool) (r : Checked) → number_given (unless a CELLS then unless b (r then NUMBERS)) ≡ 0 → (a ≡ true) × (b ≡ true)
+flags_right a b r e =
+    let p = then_none (unless a CELLS) (unless b (r then NUMBERS)) e in
+    (unless-none a Cells p.0, sym (clear-unless b (r then NUMBERS) (refused r)) ∙ clear_of (unless b (r then NUMBERS)) p.1)
+
+pub mine_as_it_came : (h : HostMine) → number_given (M.flags_of h) ≡ 0 → M.host_of (M.game_of h) ≡ h
 unfolding M.flags_of M.game_of M.host_of
 mine_as_it_came h e =
-    let p = then_none _ _ e in
-    let f : (is_flag h.dead && is_flag h.won) ≡ true = unless-none _ _ (some_number (MW.refusal_of (M.game_of h))) p.1 in
-    rw (bytes_flags h.falling (unless-none _ CELLS (lit< tt) p.0), byte_flag h.dead (and_left _ _ f), byte_flag h.won (and_right (is_flag h.dead) _ f))
+    let p = flags_right (all is_flag h.falling) (is_flag h.dead && is_flag h.won) (MW.refusal_of (M.game_of h)) e in
+    rw (bytes_flags h.falling p.0, byte_flag h.dead (and_left _ _ p.1), byte_flag h.won (and_right (is_flag h.dead) _ p.1))
 
-pub cutter_as_it_came : (h : HostCutter) → (C.flags_of h).number ≡ 0 → C.host_of (C.game_of h) ≡ h
+pub cutter_as_it_came : (h : HostCutter) → number_given (C.flags_of h) ≡ 0 → C.host_of (C.game_of h) ≡ h
 unfolding C.flags_of C.game_of C.host_of
 cutter_as_it_came h e =
-    let p = then_none _ _ e in
-    let f : (is_flag h.dead && is_flag h.won_level) ≡ true = unless-none _ _ (some_number (CW.refusal_of (C.game_of h))) p.1 in
-    rw (byte_flag h.trailing (unless-none _ CELLS (lit< tt) p.0), byte_flag h.dead (and_left _ _ f), byte_flag h.won_level (and_right (is_flag h.dead) _ f))
+    let p = flags_right (is_flag h.trailing) (is_flag h.dead && is_flag h.won_level) (CW.refusal_of (C.game_of h)) e in
+    rw (byte_flag h.trailing p.0, byte_flag h.dead (and_left _ _ p.1), byte_flag h.won_level (and_right (is_flag h.dead) _ p.1))

@@ -1,7 +1,6 @@
 -- Block Cutter's state as C holds it: to the game's own, and from it.
 use Rattle.std.specs.Prelude.{◌&&◌, ◌≡◌}
-use Rattle.refusal.specs.declared.Refusal.{Refusal}
-use Rattle.refusal.specs.Refusal.{CELLS, PLAYER, NUMBERS, unless, ◌then◌}
+use Rattle.refusal.specs.Refusal.{Checked, CELLS, PLAYER, NUMBERS, unless, ◌then◌}
 use Rattle.cutter_state.specs.declared.Cutter.{Cutter}
 use Rattle.cutter_state.specs.WellFormed.{cells_ok, player_ok, creatures_fault, numbers_ok, refusal_of}
 use Rattle.host_state.specs.declared.cutter_bytes.HostCutter.{HostCutter}
@@ -44,13 +43,13 @@ host_of c =
     }
 
 -- trailing that is no flag gets 1; dead or won that is none gets 4, behind the state's own 1, 2 and creatures' fault
-unfoldable pub flags_of : HostCutter → Refusal
+unfoldable pub flags_of : HostCutter → Checked
 flags_of h =
     unless (is_flag h.trailing) CELLS
     then unless (is_flag h.dead && is_flag h.won_level) (refusal_of (game_of h) then NUMBERS)
 
 -- document 01's order with each flag in its place, and document 02's 31 to 36 in place of 3
-unfoldable pub in_order : HostCutter → Refusal
+unfoldable pub in_order : HostCutter → Checked
 in_order h =
     unless (is_flag h.trailing && cells_ok h.grid (flag_of h.trailing)) CELLS
     then unless (player_ok (game_of h)) PLAYER

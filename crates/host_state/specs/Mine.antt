@@ -1,8 +1,7 @@
 -- Block Mine's state as C holds it: to the game's own, and from it.
 use Rattle.std.specs.Prelude.{◌&&◌, map, ◌≡◌}
 use Rattle.laws.specs.Lists.{all}
-use Rattle.refusal.specs.declared.Refusal.{Refusal}
-use Rattle.refusal.specs.Refusal.{CELLS, NUMBERS, unless, ◌then◌}
+use Rattle.refusal.specs.Refusal.{Checked, CELLS, NUMBERS, unless, ◌then◌}
 use Rattle.mine_state.specs.declared.Mine.{Mine}
 use Rattle.mine_state.specs.WellFormed.{cells_ok, player_ok, creatures_fault, numbers_ok, checked, refusal_of}
 use Rattle.host_state.specs.declared.mine_bytes.HostMine.{HostMine}
@@ -41,13 +40,13 @@ host_of m =
     }
 
 -- a mark that is no flag gets 1; dead or won that is none gets 4, behind the state's own 1, 2 and creatures' fault
-unfoldable pub flags_of : HostMine → Refusal
+unfoldable pub flags_of : HostMine → Checked
 flags_of h =
     unless (all is_flag h.falling) CELLS
     then unless (is_flag h.dead && is_flag h.won) (refusal_of (game_of h) then NUMBERS)
 
 -- document 01's order with each flag in its place, and document 02's 31 to 36 in place of 3
-unfoldable pub in_order : HostMine → Refusal
+unfoldable pub in_order : HostMine → Checked
 in_order h =
     checked (all is_flag h.falling && cells_ok (game_of h)) (player_ok (game_of h)) (creatures_fault (game_of h))
     (numbers_ok (game_of h) && (is_flag h.dead && is_flag h.won))

@@ -2,10 +2,10 @@
 ghost use Rattle.std.specs.Prelude.{◌≡◌};
 ghost use Rattle.host_state.specs.Cutter.{flags_of, game_of, host_of};
 
-use crate::flags::{byte_of, flag_of, is_flag};
+use crate::flags::{flag_of, is_flag};
 use cutter_ground::{CN, MAX_ENEMIES, Mover};
 use cutter_state::Cutter;
-use refusal::Refusal;
+use refusal::{Checked, Refusal};
 
 #[repr(C)]
 #[derive(Clone, Copy)]
@@ -24,21 +24,17 @@ pub struct HostCutter {
     pub won_level: u8,
 }
 
-// What a byte gets that is no flag, and NONE: CELLS for trailing, NUMBERS for dead or won behind what the state gets.
-pub fn cutter_flags(h: HostCutter) -> Refusal
+// What a byte gets that is no flag: Cells for trailing, Numbers for dead or won behind what the state gets.
+pub fn cutter_flags(h: HostCutter) -> Checked
     ensures { result ≡ flags_of h }
 {
     if !is_flag(h.trailing) {
-        return refusal::CELLS;
+        return Err(Refusal::Cells);
     }
     if is_flag(h.dead) & is_flag(h.won_level) {
-        return refusal::NONE;
+        return Ok(());
     }
-    let no = cutter_check::check(cutter_game(h));
-    if no.number != refusal::NONE.number {
-        return no;
-    }
-    refusal::NUMBERS
+    cutter_check::check(cutter_game(h)).and(Err(Refusal::Numbers))
 }
 
 // The game's state of the host's.
@@ -48,13 +44,13 @@ pub fn cutter_game(h: HostCutter) -> Cutter
     let grid = h.grid;
     let enemies = h.enemies;
     Cutter {
-        grid: grid,
+        grid,
         px: h.px,
         py: h.py,
         dx: h.dx,
         dy: h.dy,
         trailing: flag_of(h.trailing),
-        enemies: enemies,
+        enemies,
         count: h.count,
         level: h.level,
         lives: h.lives,
@@ -70,17 +66,17 @@ pub fn cutter_host(c: Cutter) -> HostCutter
     let grid = c.grid;
     let enemies = c.enemies;
     HostCutter {
-        grid: grid,
+        grid,
         px: c.px,
         py: c.py,
         dx: c.dx,
         dy: c.dy,
-        trailing: byte_of(c.trailing),
-        enemies: enemies,
+        trailing: u8::from(c.trailing),
+        enemies,
         count: c.count,
         level: c.level,
         lives: c.lives,
-        dead: byte_of(c.dead),
-        won_level: byte_of(c.won_level),
+        dead: u8::from(c.dead),
+        won_level: u8::from(c.won_level),
     }
 }

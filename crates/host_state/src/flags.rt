@@ -1,10 +1,8 @@
 // A flag crosses the boundary as a byte, 0 or 1.
 ghost use Rattle.std.specs.Prelude.{◌≡◌};
-ghost use Rattle.host_state.specs.Flags.{is_flag, flag_of, byte_of};
+ghost use Rattle.host_state.specs.Flags.{is_flag, flag_of};
 
-const CLEAR: u8 = 0;
-
-pub const SET: u8 = 1;
+const SET: u8 = 1;
 
 // The byte is a flag.
 pub fn is_flag(b: u8) -> bool
@@ -18,11 +16,4 @@ pub fn flag_of(b: u8) -> bool
     ensures { result ≡ flag_of b }
 {
     b == SET
-}
-
-// The byte of a flag.
-pub fn byte_of(f: bool) -> u8
-    ensures { result ≡ byte_of f }
-{
-    if f { SET } else { CLEAR }
 }

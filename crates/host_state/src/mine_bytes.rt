@@ -5,9 +5,9 @@ ghost use Rattle.mine_state.specs.State.{AREA};
 ghost use Rattle.host_state.specs.Flags.{is_flag, flag_of, byte_of};
 ghost use Rattle.host_state.specs.Mine.{flags_of, game_of, host_of};
 
-use crate::flags::{SET, byte_of, flag_of, is_flag};
+use crate::flags::{flag_of, is_flag};
 use mine_state::{AREA, Enemy, MAX_ENEMIES, Mine};
-use refusal::Refusal;
+use refusal::{Checked, Refusal};
 
 #[repr(C)]
 #[derive(Clone, Copy)]
@@ -29,13 +29,11 @@ fn marks_ok(marks: &[u8; AREA]) -> bool
     requires { length marks.now ≡ AREA }
     ensures { result ≡ all is_flag marks.now }
 {
-    let mut bad = false;
-    let mut i: usize = 0;
-    while i < AREA {
-        bad = bad | (SET < marks[i]);
-        i += 1;
+    let mut ok = true;
+    for mark in marks {
+        ok &= is_flag(*mark);
     }
-    !bad
+    ok
 }
 
 // The marks of bytes.
@@ -44,10 +42,8 @@ fn marks_of(bytes: &[u8; AREA]) -> [bool; AREA]
     ensures { result ≡ map flag_of bytes.now }
 {
     let mut out: [bool; AREA] = [false; AREA];
-    let mut i: usize = 0;
-    while i < AREA {
-        out[i] = flag_of(bytes[i]);
-        i += 1;
+    for (i, byte) in bytes.iter().enumerate() {
+        out[i] = flag_of(*byte);
     }
     out
 }
@@ -58,30 +54,24 @@ fn bytes_of(marks: &[bool; AREA]) -> [u8; AREA]
     ensures { result ≡ map byte_of marks.now }
 {
     let mut out: [u8; AREA] = [0; AREA];
-    let mut i: usize = 0;
-    while i < AREA {
-        out[i] = byte_of(marks[i]);
-        i += 1;
+    for (i, mark) in marks.iter().enumerate() {
+        out[i] = u8::from(*mark);
     }
     out
 }
 
-// What a byte gets that is no flag, and NONE: CELLS for a mark, NUMBERS for dead or won behind what the state gets.
-pub fn mine_flags(h: HostMine) -> Refusal
+// What a byte gets that is no flag: Cells for a mark, Numbers for dead or won behind what the state gets.
+pub fn mine_flags(h: HostMine) -> Checked
     ensures { result ≡ flags_of h }
 {
     let marks = h.falling;
     if !marks_ok(&marks) {
-        return refusal::CELLS;
+        return Err(Refusal::Cells);
     }
     if is_flag(h.dead) & is_flag(h.won) {
-        return refusal::NONE;
+        return Ok(());
     }
-    let no = mine_check::check(mine_game(h));
-    if no.number != refusal::NONE.number {
-        return no;
-    }
-    refusal::NUMBERS
+    mine_check::check(mine_game(h)).and(Err(Refusal::Numbers))
 }
 
 // The game's state of the host's.
@@ -93,11 +83,11 @@ pub fn mine_game(h: HostMine) -> Mine
     let enemies = h.enemies;
     let falling = marks_of(&marks);
     Mine {
-        grid: grid,
-        falling: falling,
+        grid,
+        falling,
         px: h.px,
         py: h.py,
-        enemies: enemies,
+        enemies,
         count: h.count,
         coins: h.coins,
         needed: h.needed,
@@ -115,15 +105,15 @@ pub fn mine_host(m: Mine) -> HostMine
     let enemies = m.enemies;
     let falling = bytes_of(&marks);
     HostMine {
-        grid: grid,
-        falling: falling,
+        grid,
+        falling,
         px: m.px,
         py: m.py,
-        enemies: enemies,
+        enemies,
         count: m.count,
         coins: m.coins,
         needed: m.needed,
-        dead: byte_of(m.dead),
-        won: byte_of(m.won),
+        dead: u8::from(m.dead),
+        won: u8::from(m.won),
     }
 }

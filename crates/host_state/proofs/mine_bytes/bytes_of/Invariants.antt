@@ -1,13 +1,9 @@
 use mathlib.Core.List.{map}
 use mathlib.Core.Path.{◌≡◌}
-use Prim.Native.Nat.{◌≤◌, ◌-◌}
 use lib.ListN.{length, take}
 use Rattle.mine_state.specs.State.{AREA}
 use Rattle.host_state.specs.Flags.{byte_of}
 use Rattle.host_state.proofs.mine_bytes.bytes_of.Given as goal
 
 abbrev pub invariant-loop-i : goal.invariant-loop-i
-invariant-loop-i l = (l.i ≤ AREA) × (length l.out ≡ AREA) × (take l.i l.out ≡ take l.i (map byte_of l.marks))
-
-abbrev pub decreases-loop-i : goal.decreases-loop-i
-decreases-loop-i l = AREA - l.i
+invariant-loop-i l = (length l.out ≡ AREA) × (take l.i l.out ≡ take l.i (map byte_of l.marks))

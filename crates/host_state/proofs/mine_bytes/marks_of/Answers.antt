@@ -11,9 +11,8 @@ pub loop-i-preserved : goal.loop-i-preserved
 loop-i-preserved c =
     let l = c.args.bytes.now in
     let i = c.loop-i.i in
-    let b : i < length (map flag_of l) = omega (arith, length-map l flag_of, c.requires) in (
-      omega arith,
-      simp length-set c.loop-i.invariant.1,
-      fill_more c.loop-i.out (map flag_of l) i c.flag_of.result _ (omega (arith, c.loop-i.invariant.1)) b c.loop-i.invariant.2
+    let b : i < length (map flag_of l) = omega (arith, length-map l flag_of, c.requires, c.loop-i-test.true) in (
+      simp length-set c.loop-i.invariant.0,
+      fill_more c.loop-i.out (map flag_of l) i c.flag_of.result _ (omega (arith, c.loop-i.invariant.0, c.requires, c.loop-i-test.true)) b c.loop-i.invariant.1
           (c.flag_of.ensures ∙ sym (get_or-map flag_of l i 0)),
     )

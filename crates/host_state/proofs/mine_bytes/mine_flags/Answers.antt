@@ -1,9 +1,8 @@
 use mathlib.Core.Path.{sym, ap, ◌∙◌}
 use Rattle.refusal.specs.Refusal.{NUMBERS}
-use Rattle.refusal.proofs.Calls.{then_first, then_second}
 use Rattle.mine_state.specs.WellFormed.{refusal_of}
 use Rattle.host_state.specs.Mine.{flags_of}
-use Rattle.host_state.proofs.Order.{mine_behind}
+use Rattle.host_state.proofs.Order.{and_then, mine_behind}
 use Rattle.host_state.proofs.mine_bytes.mine_flags.Goals as goal
 
 pub returns-then-not-marks_ok : goal.returns-then-not-marks_ok
@@ -15,16 +14,8 @@ unfolding flags_of
 returns-then-is_flag c =
     simp (sym c.marks_ok.ensures ∙ c.if-not-marks_ok.false, sym c.is_flag.ensures, sym c.is_flag-2.ensures, c.if-is_flag.true)
 
-pub returns-then-no : goal.returns-then-no
-returns-then-no c =
-    let marks = sym c.marks_ok.ensures ∙ c.if-not-marks_ok.false in
-    let no = c.check-no.ensures ∙ ap refusal_of c.mine_game.ensures in
-    sym (mine_behind c.args.h marks c.is_flag.ensures c.is_flag-2.ensures c.if-is_flag.false no
-    ∙ then_first _ NUMBERS c.if-no.true)
-
 pub returns : goal.returns
 returns c =
     let marks = sym c.marks_ok.ensures ∙ c.if-not-marks_ok.false in
-    let no = c.check-no.ensures ∙ ap refusal_of c.mine_game.ensures in
-    sym (mine_behind c.args.h marks c.is_flag.ensures c.is_flag-2.ensures c.if-is_flag.false no
-    ∙ then_second _ NUMBERS c.if-no.false)
+    let no = c.check.ensures ∙ ap refusal_of c.mine_game.ensures in
+    c.and.ensures ∙ and_then c.check.result NUMBERS ∙ sym (mine_behind c.args.h marks c.is_flag.ensures c.is_flag-2.ensures c.if-is_flag.false no)
