@@ -255,8 +255,8 @@ sumbadger_cutter_answer sumbadger_cutter_direction(sumbadger_cutter game, unsign
 /* One step in the direction. Refusals: the state's. */
 sumbadger_cutter_answer sumbadger_cutter_step_player(sumbadger_cutter game);
 
-/* The same step, where a cut is closed by plain sweeps: for teaching. It gives what the step above gives, and takes
-   longer. Refusals: the state's. */
+/* The same step, where a cut is closed by plain sweeps: for teaching. It gives what the step above gives, takes longer, and needs
+   4,096 bytes of stack more where it closes. Refusals: the state's. */
 sumbadger_cutter_answer sumbadger_cutter_step_by_sweeps(sumbadger_cutter game);
 
 /* One creature tick. Refusals: the state's. */

@@ -235,7 +235,8 @@ pub fn close_cut(
     close_regions(grid, &[], &enemies[..count], limit)
 }
 
-// The same by sweeps.
+// The same by sweeps. A call of its own, so that only a closing by sweeps reserves the numbers.
+#[inline(never)]
 pub fn close_by_sweeps(
     grid: &mut [u8; CN],
     enemies: [Mover; MAX_ENEMIES],

@@ -1,22 +1,31 @@
-// The creatures: whether one is at a cell, and their tick.
-ghost use Rattle.std.specs.Prelude.{cond, ◌&&◌, ◌||◌, ◌≡◌, ◌<◌, ◌≤◌, eqb};
-ghost use Rattle.laws.specs.Lists.{any};
+// The creatures: who is at a cell, and their tick.
+ghost use Rattle.std.specs.Prelude.{cond, ◌&&◌, ◌||◌, ◌≡◌, ◌<◌, ◌≤◌, eqb, position};
 ghost use Rattle.cutter_ground.specs.Cells.{CN, CB_BLACK, CB_TRAIL};
 ghost use Rattle.cutter_state.specs.WellFormed.{WellFormed};
 ghost use Rattle.cutter_rules.specs.Tick.{flipped, gone_to, bounced, enemies_stepped};
 ghost use Rattle.cutter_moves.specs.CodeMoves.{Roams, Bounces, Ticks, view_of, mover_at, roam_of, tick_of};
-ghost use Rattle.cutter_rules.specs.Step.{is_at};
+ghost use Rattle.cutter_rules.specs.Step.{is_at, creature_at};
 ghost use Rattle.cutter_ground.specs.Movers.{MAX_ENEMIES};
 
 use crate::ahead::{side_in, vertical_in};
 use cutter_ground::{CB_BLACK, CB_TRAIL, CN, CW, MAX_ENEMIES, Mover, cell_of};
 use cutter_state::Cutter;
+use found::Found;
 
-// Whether a creature is at a cell.
-pub fn is_taken(herd: &[Mover], at: usize) -> bool
-    ensures { result ≡ any (is_at at) herd.now }
+// The first slot of a cell.
+fn slot_of(herd: &[Mover], at: usize) -> Option<usize>
+    ensures { result ≡ position (is_at at) herd.now }
 {
-    herd.iter().any(|e| cell_of(*e) == at)
+    herd.iter().position(|e| cell_of(*e) == at)
+}
+
+// The first creature at a cell and how many are there, or nobody.
+pub fn enemy_at(herd: &[Mover], at: usize) -> Option<Found>
+    ensures { result ≡ creature_at herd.now at }
+{
+    let index = slot_of(herd, at)?;
+    let number = herd.iter().filter(|e| cell_of(**e) == at).count();
+    Some(Found { index, number })
 }
 
 // What a creature has ahead: the diagonal cell, and what the side, the vertical and the diagonal one hold.
@@ -156,12 +165,11 @@ pub fn step_enemies(c: Cutter) -> Cutter
     requires { WellFormed c }
     ensures { result ≡ enemies_stepped c }
 {
+    let mut out = c;
     let herd = c.enemies;
-    let t = tick(&c.grid, herd, c.count);
-    let enemies = t.enemies;
-    Cutter {
-        enemies,
-        dead: c.dead | t.dead,
-        ..c
-    }
+    let t = tick(&out.grid, herd, c.count);
+    let moved = t.enemies;
+    out.enemies = moved;
+    out.dead = c.dead | t.dead;
+    out
 }

@@ -9,7 +9,7 @@ ghost use Rattle.cutter_moves.specs.CodeSteps.{playing, stopping, dying, going, 
 ghost use Rattle.cutter_rules.specs.Cost.{step_made, swept_made, respawn_made};
 
 use crate::ahead::diagonal_of;
-use crate::enemies::is_taken;
+use crate::enemies::enemy_at;
 use controls::{DOWN, RIGHT, UP};
 use cutter_border::move_to_border;
 use cutter_capture::{Closed, MAX_COMP, close_by_sweeps, close_cut, recode_line};
@@ -150,7 +150,7 @@ fn decide(grid: &[u8; CN], enemies: [Mover; MAX_ENEMIES], count: usize, s: Step)
         return s.stopped();
     }
     // Walking into a creature is fatal too, not only being caught by one.
-    if is_taken(&enemies[..count], at) {
+    if let Some(_) = enemy_at(&enemies[..count], at) {
         return s.killed();
     }
     if s.trailing {

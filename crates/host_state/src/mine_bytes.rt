@@ -61,6 +61,7 @@ fn bytes_of(marks: &[bool; AREA]) -> [u8; AREA]
 }
 
 // What a byte gets that is no flag: Cells for a mark, Numbers for dead or won behind what the state gets.
+#[inline(always)]
 pub fn mine_flags(h: HostMine) -> Checked
     ensures { result ≡ flags_of h }
 {

@@ -1,12 +1,7 @@
-use mathlib.Core.Bool.{Bool, true, false, ◌&&◌, not, false≢true}
+use mathlib.Core.Bool.{Bool, true, false, ◌&&◌}
 use mathlib.Core.List.{List}
 use mathlib.Core.Path.{◌≡◌, refl, sym, ◌∙◌, ap, ap₂}
 use Prim.Native.Nat.{ℕ}
-use Rattle.std.specs.Prelude.{Option, None, Some}
-use Rattle.found.specs.First.{At, nobody, index, number}
-use Rattle.found.specs.declared.Found.{Found}
-use Rattle.found.proofs.First.{nobody-any}
-use Rattle.laws.specs.Lists.{any}
 use Rattle.cutter_state.specs.State.{creatures}
 use lib.ListN.{take}
 use borrow.Author.Rules.{rules}
@@ -17,12 +12,12 @@ use Rattle.cutter_ground.specs.declared.Mover.{Mover}
 use Rattle.cutter_state.specs.declared.Cutter.{Cutter}
 use Rattle.cutter_state.specs.WellFormed.{is_zero}
 use Rattle.cutter_rules.specs.Ahead.{diagonal_of}
-use Rattle.cutter_rules.specs.Step.{no_direction, target, is_at, creature_at}
+use Rattle.cutter_rules.specs.Step.{no_direction, target, creature_at}
 use Rattle.cutter_rules.proofs.Step.{step-none, step-off, step-killed, step_trailing, step_walking, closes-none, closes-off, closes-killed, closes_free}
 use Rattle.cutter_moves.specs.declared.player.Step.{Step}
 use Rattle.cutter_moves.specs.CodeSteps.{Plays}
 use Rattle.cutter_moves.proofs.Applied.{open_tells, stayed, died, turned}
-use Rattle.cutter_moves.proofs.player.decide.Goals.{After-diagonal_of-at, After-is_taken}
+use Rattle.cutter_moves.proofs.player.decide.Goals.{After-diagonal_of-at, After-enemy_at}
 use Rattle.cutter_moves.proofs.player.decide.Goals as goal
 
 heads : {c : Cutter} {g : List ℕ} {s : Step} → Plays c g s → no_direction c ≡ (is_zero s.dx && is_zero s.dy)
@@ -45,22 +40,10 @@ way k p =
       (simp (to_z-of_z fx, to_z-of_z fy) at k.diagonal_of-at.ensures) ∙ aims p,
     )
 
--- whether somebody is found
-somebody : (f : Option Found) → nobody f ≡ false → f ≡ At (index f) (number f)
-somebody (Some f) e = refl
-somebody None e = absurd (false≢true (sym e))
-
-no-one : (f : Option Found) → nobody f ≡ true → f ≡ None
-no-one (Some f) e = absurd (false≢true e)
-no-one None e = refl
-
-asked : (f : After-is_taken) (c : Cutter) → c.enemies ≡ f.args.enemies
+asked : (f : After-enemy_at) (c : Cutter) → c.enemies ≡ f.args.enemies
     → c.count ≡ f.args.count
-    → nobody (creature_at (creatures c) f.diagonal_of-at.result) ≡ not f.is_taken.result
-asked f c es n =
-    nobody-any (is_at f.diagonal_of-at.result) (creatures c)
-    ∙ ap₂ (λ (k : ℕ) (l : List Mover). not (any (is_at f.diagonal_of-at.result) (take k l))) n es
-    ∙ ap not (sym f.is_taken.ensures)
+    → f.enemy_at.result ≡ creature_at (creatures c) f.diagonal_of-at.result
+asked f c es n = f.enemy_at.ensures ∙ ap₂ (λ (k : ℕ) (l : List Mover). creature_at (take k l) f.diagonal_of-at.result) (sym n) (sym es)
 
 pub returns-then-is_standing : goal.returns-then-is_standing
 returns-then-is_standing c =
@@ -78,33 +61,34 @@ returns-then-at-ge-CN c =
       c.requires.here,
     )
 
-pub returns-then-is_taken : goal.returns-then-is_taken
-returns-then-is_taken c =
+pub returns-in-Some : goal.returns-in-Some
+returns-in-Some c =
     let to = c.diagonal_of-at.result in
+    let who = c.enemy_at.result in
     let on = c.if-at-ge-CN.false in
     rw c.killed.ensures (
       λ m p es n.
-          let here = goal.at.returns-then-is_taken c in
+          let here = goal.at.returns-in-Some c in
           let q = way here.After-diagonal_of-at p in
-          let who = creature_at (creatures m) to in
-          let some = somebody who (asked here.After-is_taken m es n ∙ ap not c.if-is_taken.true) in
-          open_tells p refl (closes-killed m q.0 to q.1 who on refl some) (died p ∙ step-killed m q.0 to q.1 who on refl some),
+          let met = asked here.After-enemy_at m es n in
+          open_tells p refl (closes-killed m q.0 to q.1 who on met c.in-Some.is) (died p ∙ step-killed m q.0 to q.1 who on met c.in-Some.is),
       c.requires.here,
     )
 
 pub returns-then-s : goal.returns-then-s
 returns-then-s c =
     let to = c.diagonal_of-at.result in
-    let on = c.if-at-ge-CN.false in (
+    let who = c.enemy_at.result in
+    let on = c.if-at-ge-CN.false in
+    let none = c.in_default.is in (
       λ m p es n.
           let here = goal.at.returns-then-s c in
           let q = way here.After-diagonal_of-at p in
-          let who = creature_at (creatures m) to in
-          let none = no-one who (asked here.After-is_taken m es n ∙ ap not c.if-is_taken.false) in
+          let met = asked here.After-enemy_at m es n in
           let x = c.step_trailing.ensures.0 m p in
           record {
-            makes = x.makes ∙ step_trailing m q.0 to q.1 who on refl none (draws p c.if-s.true);
-            shuts = x.shuts ∙ sym (closes_free m q.0 to q.1 who true on refl none (draws p c.if-s.true));
+            makes = x.makes ∙ step_trailing m q.0 to q.1 who on met none (draws p c.if-s.true);
+            shuts = x.shuts ∙ sym (closes_free m q.0 to q.1 who true on met none (draws p c.if-s.true));
             there = λ e. x.there e ∙ q.1;
           },
       c.step_trailing.ensures.1,
@@ -113,16 +97,17 @@ returns-then-s c =
 pub returns : goal.returns
 returns c =
     let to = c.diagonal_of-at.result in
-    let on = c.if-at-ge-CN.false in (
+    let who = c.enemy_at.result in
+    let on = c.if-at-ge-CN.false in
+    let none = c.in_default.is in (
       λ m p es n.
           let here = goal.at.returns c in
           let q = way here.After-diagonal_of-at p in
-          let who = creature_at (creatures m) to in
-          let none = no-one who (asked here.After-is_taken m es n ∙ ap not c.if-is_taken.false) in
+          let met = asked here.After-enemy_at m es n in
           let x = c.step_walking.ensures.0 m p in
           record {
-            makes = x.makes ∙ step_walking m q.0 to q.1 who on refl none (draws p c.if-s.false);
-            shuts = x.shuts ∙ sym (closes_free m q.0 to q.1 who false on refl none (draws p c.if-s.false));
+            makes = x.makes ∙ step_walking m q.0 to q.1 who on met none (draws p c.if-s.false);
+            shuts = x.shuts ∙ sym (closes_free m q.0 to q.1 who false on met none (draws p c.if-s.false));
             there = λ e. x.there e ∙ q.1;
           },
       c.step_walking.ensures.1,
