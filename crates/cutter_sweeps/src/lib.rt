@@ -30,10 +30,12 @@ fn lower_by(grid: &[u8; CN], nums: &[u16; CN], d: usize, v: u16) -> u16
     ensures { result ≡ lower grid.now nums.now d v }
 {
     if d < CN && grid[d] == CB_BLACK {
-        nums[d].min(v)
-    } else {
-        v
+        let n = nums[d];
+        if n < v {
+            return n;
+        }
     }
+    v
 }
 
 // The least among a cell's own number and those of its black neighbours.

@@ -1,2 +1,3 @@
 pub mod Differ
 pub mod Agrees
+pub mod Places

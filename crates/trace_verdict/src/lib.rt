@@ -36,13 +36,17 @@ pub const RECORD: usize = 8;
 pub fn differs(a: &[u8], b: &[u8]) -> Option<usize>
     ensures { result ≡ first_difference a.now b.now }
 {
-    for (i, x) in a.iter().enumerate() {
-        if i >= b.len() || *x != b[i] {
+    let both = a.len().min(b.len());
+    for i in 0..both {
+        if a[i] != b[i] {
             return Some(i);
         }
     }
-    if a.len() < b.len() {
-        return Some(a.len());
+    if both < a.len() {
+        return Some(both);
+    }
+    if both < b.len() {
+        return Some(both);
     }
     None
 }
