@@ -2,8 +2,9 @@
 ghost use Rattle.std.specs.Prelude.{◌*◌, ◌≤◌, ◌≡◌, length};
 ghost use Rattle.text.specs.Text.{LINE};
 ghost use Rattle.lines.specs.Cuts.{cut_start, cut_numbers, said_of, cut_byte, CutRan};
+ghost use Rattle.lines.specs.Runs.{said};
 
-use crate::playing::{Played, Run, Said, run_bytes, says};
+use crate::playing::{Played, Run, Runnable, Said, run_bytes, says};
 use crate::reading::play;
 use controls::{DOWN, LEFT, RIGHT, UP};
 use cutter::CutterAnswer;
@@ -38,39 +39,41 @@ pub fn cut_numbers(c: Cutter) -> [u64; NUMBERS]
     ]
 }
 
-// What a call's answer says, and its game.
+// The game becomes that of a call's answer; what is said of it.
 #[tactic(auto, unfolding(crate::specs::Cuts::said_of))]
-fn said_of(a: CutterAnswer) -> Said<Cutter>
-    ensures { result ≡ said_of a }
+fn take(c: &mut Cutter, a: CutterAnswer) -> Says
+    ensures { said result c.new ≡ said_of a }
 {
-    Said {
-        says: says(a.refusal),
-        game: a.game,
-    }
+    *c = a.game;
+    says(a.refusal)
 }
 
 // One byte: 5 8 7 9 direction, s step, e creatures, r respawn; newline is ignored, others are refused.
 #[tactic(auto, unfolding(crate::specs::Cuts::cut_byte))]
+fn press(c: &mut Cutter, b: u8) -> Says
+    ensures { said result c.new ≡ cut_byte c.old b }
+{
+    let game = *c;
+    match b {
+        b'\n' => Says::Nothing,
+        b'5' => take(c, cutter::direction(game, UP)),
+        b'8' => take(c, cutter::direction(game, DOWN)),
+        b'7' => take(c, cutter::direction(game, LEFT)),
+        b'9' => take(c, cutter::direction(game, RIGHT)),
+        b's' => take(c, cutter::step_player(game)),
+        b'e' => take(c, cutter::step_enemies(game)),
+        b'r' => take(c, cutter::respawn(game)),
+        _ => Says::Refused(Refusal::Command),
+    }
+}
+
+// The same on a game by value.
 pub fn cut_byte(c: Cutter, b: u8) -> Said<Cutter>
     ensures { result ≡ cut_byte c b }
 {
-    match b {
-        b'\n' => Said {
-            says: Says::Nothing,
-            game: c,
-        },
-        b'5' => said_of(cutter::direction(c, UP)),
-        b'8' => said_of(cutter::direction(c, DOWN)),
-        b'7' => said_of(cutter::direction(c, LEFT)),
-        b'9' => said_of(cutter::direction(c, RIGHT)),
-        b's' => said_of(cutter::step_player(c)),
-        b'e' => said_of(cutter::step_enemies(c)),
-        b'r' => said_of(cutter::respawn(c)),
-        _ => Said {
-            says: Says::Refused(Refusal::Command),
-            game: c,
-        },
-    }
+    let mut game = c;
+    let says = press(&mut game, b);
+    Said { says, game }
 }
 
 impl Played for Cutter {
@@ -84,12 +87,12 @@ impl Played for Cutter {
         cut_start()
     }
 
-    fn numbers(self) -> [u64; NUMBERS] {
-        cut_numbers(self)
+    fn numbers(&self) -> [u64; NUMBERS] {
+        cut_numbers(*self)
     }
 
-    fn byte(self, b: u8) -> Said<Cutter> {
-        cut_byte(self, b)
+    fn byte(&mut self, b: u8) -> Says {
+        press(self, b)
     }
 }
 
@@ -99,6 +102,12 @@ pub fn cut_run(c: Cutter, parted: bool, bytes: &[u8], out: &mut [u8]) -> Run<Cut
     ensures { CutRan parted c bytes.now out.old result out.new }
 {
     run_bytes(c, parted, bytes, out)
+}
+
+impl Runnable for Cutter {
+    fn run(self, parted: bool, bytes: &[u8], out: &mut [u8]) -> Run<Cutter> {
+        cut_run(self, parted, bytes, out)
+    }
 }
 
 // Plays standard input; where it is parted into scripts, each of them starts anew.

@@ -3,8 +3,9 @@ ghost use Rattle.std.specs.Prelude.{◌*◌, ◌≤◌, ◌≡◌, length};
 ghost use Rattle.text.specs.Text.{LINE};
 ghost use Rattle.mine_rules.specs.Load.{loaded};
 ghost use Rattle.lines.specs.Mines.{mine_numbers, said_of, mine_byte, MineRan};
+ghost use Rattle.lines.specs.Runs.{said};
 
-use crate::playing::{Played, Run, Said, run_bytes, says};
+use crate::playing::{Played, Run, Runnable, Said, run_bytes, says};
 use crate::reading::play;
 use controls::{DOWN, LEFT, RIGHT, UP};
 use mine::MineAnswer;
@@ -27,42 +28,44 @@ pub fn mine_numbers(m: Mine) -> [u64; NUMBERS]
     ]
 }
 
-// What a call's answer says, and its game.
+// The game becomes that of a call's answer; what is said of it.
 #[tactic(auto, unfolding(crate::specs::Mines::said_of))]
-fn said_of(a: MineAnswer) -> Said<Mine>
-    ensures { result ≡ said_of a }
+fn take(m: &mut Mine, a: MineAnswer) -> Says
+    ensures { said result m.new ≡ said_of a }
 {
-    Said {
-        says: says(a.refusal),
-        game: a.game,
-    }
+    *m = a.game;
+    says(a.refusal)
 }
 
 // One byte: L load, 5 8 7 9 move, g gravity, c creatures; newline is ignored, others are refused.
 #[tactic(auto, unfolding(crate::specs::Mines::mine_byte))]
+fn press(m: &mut Mine, b: u8) -> Says
+    ensures { said result m.new ≡ mine_byte m.old b }
+{
+    let game = *m;
+    match b {
+        b'\n' => Says::Nothing,
+        b'L' => {
+            *m = mine::load();
+            Says::Numbers
+        }
+        b'5' => take(m, mine::step_player(game, UP)),
+        b'8' => take(m, mine::step_player(game, DOWN)),
+        b'7' => take(m, mine::step_player(game, LEFT)),
+        b'9' => take(m, mine::step_player(game, RIGHT)),
+        b'g' => take(m, mine::gravity(game)),
+        b'c' => take(m, mine::move_enemies(game)),
+        _ => Says::Refused(Refusal::Command),
+    }
+}
+
+// The same on a game by value.
 pub fn mine_byte(m: Mine, b: u8) -> Said<Mine>
     ensures { result ≡ mine_byte m b }
 {
-    match b {
-        b'\n' => Said {
-            says: Says::Nothing,
-            game: m,
-        },
-        b'L' => Said {
-            says: Says::Numbers,
-            game: mine::load(),
-        },
-        b'5' => said_of(mine::step_player(m, UP)),
-        b'8' => said_of(mine::step_player(m, DOWN)),
-        b'7' => said_of(mine::step_player(m, LEFT)),
-        b'9' => said_of(mine::step_player(m, RIGHT)),
-        b'g' => said_of(mine::gravity(m)),
-        b'c' => said_of(mine::move_enemies(m)),
-        _ => Said {
-            says: Says::Refused(Refusal::Command),
-            game: m,
-        },
-    }
+    let mut game = m;
+    let says = press(&mut game, b);
+    Said { says, game }
 }
 
 impl Played for Mine {
@@ -76,12 +79,12 @@ impl Played for Mine {
         mine::load()
     }
 
-    fn numbers(self) -> [u64; NUMBERS] {
-        mine_numbers(self)
+    fn numbers(&self) -> [u64; NUMBERS] {
+        mine_numbers(*self)
     }
 
-    fn byte(self, b: u8) -> Said<Mine> {
-        mine_byte(self, b)
+    fn byte(&mut self, b: u8) -> Says {
+        press(self, b)
     }
 }
 
@@ -91,6 +94,12 @@ pub fn mine_run(m: Mine, parted: bool, bytes: &[u8], out: &mut [u8]) -> Run<Mine
     ensures { MineRan parted m bytes.now out.old result out.new }
 {
     run_bytes(m, parted, bytes, out)
+}
+
+impl Runnable for Mine {
+    fn run(self, parted: bool, bytes: &[u8], out: &mut [u8]) -> Run<Mine> {
+        mine_run(self, parted, bytes, out)
+    }
 }
 
 // Plays standard input; where it is parted into scripts, each of them starts anew.

@@ -2,7 +2,7 @@
 ghost use Rattle.std.specs.Prelude.{◌*◌, ◌≤◌, ◌≡◌, ℕ, List, length};
 ghost use Rattle.text.specs.Text.{LINE};
 ghost use Rattle.lines.specs.declared.playing.Said.{Said};
-ghost use Rattle.lines.specs.Runs.{says_of, next, Ran};
+ghost use Rattle.lines.specs.Runs.{says_of, said, next, Ran};
 
 use crate::BAR;
 use refusal::Checked;
@@ -35,12 +35,19 @@ pub trait Played: Copy {
         ensures { result ≡ started };
 
     // The numbers of a line.
-    fn numbers(self) -> [u64; NUMBERS]
-        ensures { result ≡ numbers_of self };
+    fn numbers(&self) -> [u64; NUMBERS]
+        ensures { result ≡ numbers_of self.now };
 
-    // What one byte does.
-    fn byte(self, b: u8) -> Said<Self>
-        ensures { result ≡ byte_of self b };
+    // What one byte does, where the game lies; what is said of it.
+    fn byte(&mut self, b: u8) -> Says
+        ensures { said result self.new ≡ byte_of self.old b };
+}
+
+// A game whose runs of bytes are played: what `mines` and `cuts` do with what they read.
+pub trait Runnable: Played {
+    fn run(self, parted: bool, bytes: &[u8], out: &mut [u8]) -> Run<Self>
+        requires { length bytes.now * LINE ≤ length out.old }
+        ensures { Ran Self.byte_of Self.started Self.numbers_of parted self bytes.now out.old result out.new };
 }
 
 // What a call says: the numbers of its game, or why it is refused.
@@ -53,18 +60,25 @@ pub fn says(checked: Checked) -> Says
     }
 }
 
-// The next byte of a run; where the run is parted into scripts, each of them starts anew.
+// The next byte of a run, where the game lies; where the run is parted into scripts, each of them starts anew.
 #[tactic(auto, unfolding(crate::specs::Runs::next))]
+fn advance<G: Played>(game: &mut G, parted: bool, b: u8) -> Says
+    ensures { said result game.new ≡ next G.byte_of G.started parted game.old b }
+{
+    if parted & (b == BAR) {
+        *game = G::start();
+        return Says::Nothing;
+    }
+    game.byte(b)
+}
+
+// The same on a game by value.
 pub fn next<G: Played>(game: G, parted: bool, b: u8) -> Said<G>
     ensures { result ≡ next G.byte_of G.started parted game b }
 {
-    if parted & (b == BAR) {
-        return Said {
-            says: Says::Nothing,
-            game: G::start(),
-        };
-    }
-    game.byte(b)
+    let mut game = game;
+    let says = advance(&mut game, parted, b);
+    Said { says, game }
 }
 
 // A run of bytes: plays them, and puts their lines at the start of `out`.
@@ -75,9 +89,8 @@ pub fn run_bytes<G: Played>(start: G, parted: bool, bytes: &[u8], out: &mut [u8]
     let mut game = start;
     let mut end: usize = 0;
     for byte in bytes {
-        let said = next(game, parted, *byte);
-        game = said.game;
-        end = text::put_line(said.says, game.numbers(), out, end);
+        let says = advance(&mut game, parted, *byte);
+        end = text::put_line(says, game.numbers(), out, end);
     }
     Run { game, end }
 }

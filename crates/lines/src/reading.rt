@@ -1,18 +1,18 @@
 // From standard input to standard output, to the end of the input.
-use crate::playing::{Played, run_bytes};
+use crate::playing::Runnable;
 
 // Bytes read at a time, so many that their lines fit io's large buffer.
 const READ: usize = 256;
 
 // Reads once, plays what came and writes its lines. Gives the game where there may be more.
-fn turn<G: Played>(rt: &(impl Input + Print + Eprint), game: G, parted: bool) -> Option<G> {
+fn turn<G: Runnable>(rt: &(impl Input + Print + Eprint), game: G, parted: bool) -> Option<G> {
     let mut input = [0u8; READ];
     let n = streams::read(rt, &mut input);
     if n == 0 {
         return None;
     }
     let mut out = io::large_buffer();
-    let run = run_bytes(game, parted, &input[..n], &mut out);
+    let run = game.run(parted, &input[..n], &mut out);
     let end = run.end;
     if !streams::write(rt, &out[..end]) {
         return None;
@@ -22,7 +22,7 @@ fn turn<G: Played>(rt: &(impl Input + Print + Eprint), game: G, parted: bool) ->
 
 // A proved loop has to end, and nothing says that the input does: so it counts its turns, up to
 // a number that no run reaches.
-pub fn play<G: Played>(rt: &(impl Input + Print + Eprint), start: G, parted: bool) {
+pub fn play<G: Runnable>(rt: &(impl Input + Print + Eprint), start: G, parted: bool) {
     let mut game = start;
     for _ in 0..u64::MAX {
         match turn(rt, game, parted) {

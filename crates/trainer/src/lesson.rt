@@ -45,12 +45,18 @@ fn tell_sweeps(rt: &(impl Print + Eprint), grid: &[u8; CN], nums: &mut [u16; CN]
     }
 }
 
-// How many cells have a number.
+// How many cells have a number. Counted in 16 bits, as cutter_ground's `count_of`.
 fn cells_of(nums: &[u16; CN], number: u16) -> u16
     requires { length nums.now ≡ CN }
     ensures { result ≡ tally number nums.now }
 {
-    nums.iter().filter(|n| **n == number).count() as u16
+    let mut n: u16 = 0;
+    for own in nums {
+        if *own == number {
+            n += 1;
+        }
+    }
+    n
 }
 
 // The number of a cell, CN off the grid.

@@ -10,7 +10,7 @@ mod lesson;
 
 use cutter_state::Cutter;
 use lesson::tell_closing;
-use lines::{Said, cut_byte, cut_numbers, cut_start};
+use lines::{Played, cut_numbers, cut_start};
 use text::{LINE, Says};
 
 // Bytes read at a time.
@@ -30,25 +30,25 @@ fn tell_step(rt: &(impl Print + Eprint), c: Cutter, game: Cutter) {
     }
 }
 
-// The game after a byte; none where its line could not be written.
-fn play_byte(rt: &(impl Print + Eprint), c: Cutter, b: u8) -> Option<Cutter> {
-    let Said { says, game } = cut_byte(c, b);
+// One byte, played where the game lies; none where its line could not be written.
+fn play_byte(rt: &(impl Print + Eprint), c: &mut Cutter, b: u8) -> Option<()> {
+    let before = *c;
+    let says = c.byte(b);
     if b == b's' {
-        tell_step(rt, c, game);
+        tell_step(rt, before, *c);
     }
-    tell_line(rt, says, game).then_some(game)
+    tell_line(rt, says, *c).then_some(())
 }
 
-fn play_bytes(rt: &(impl Print + Eprint), c: Cutter, bytes: &[u8]) -> Option<Cutter> {
-    let mut game = c;
+fn play_bytes(rt: &(impl Print + Eprint), c: &mut Cutter, bytes: &[u8]) -> Option<()> {
     for b in bytes {
-        game = play_byte(rt, game, *b)?;
+        play_byte(rt, c, *b)?;
     }
-    Some(game)
+    Some(())
 }
 
 // Reads once and plays what came; none where there is no more to play.
-fn take_turn(rt: &(impl Input + Print + Eprint), c: Cutter) -> Option<Cutter> {
+fn take_turn(rt: &(impl Input + Print + Eprint), c: &mut Cutter) -> Option<()> {
     let mut input = [0u8; READ];
     let n = streams::read(rt, &mut input);
     if n == 0 {
@@ -61,9 +61,8 @@ fn take_turn(rt: &(impl Input + Print + Eprint), c: Cutter) -> Option<Cutter> {
 fn main(rt: HostRuntime) {
     let mut c = cut_start();
     for _ in 0..u64::MAX {
-        let Some(game) = take_turn(&rt, c) else {
+        if take_turn(&rt, &mut c).is_none() {
             return;
-        };
-        c = game;
+        }
     }
 }

@@ -4,7 +4,7 @@ use native.Mathlib.Omega.{arith}
 use borrow.Author.Rules.{rules}
 use lib.ListN.{length}
 use Rattle.text.specs.Text.{NUMBERS}
-use Rattle.lines.specs.Runs.{step, game_after, line}
+use Rattle.lines.specs.Runs.{said, step, game_after, line}
 use Rattle.lines.proofs.Runs.{after_end, lines_end}
 use Rattle.lines.proofs.Bytes.{played-more, told_more, room-more}
 use Rattle.lines.proofs.playing.run_bytes.Goals as goal
@@ -17,15 +17,16 @@ loop-byte-preserved g c =
     let parted = c.args.parted in
     let bytes = c.args.bytes.now in
     let s = c.loop-byte in
-    let x = c.next-said in
+    let x = c.advance-says in
+    let y = said x.result x.new.game in
     let n = c.numbers in
     let p = c.put_line-end in
     let size : length n.result ≡ NUMBERS = search rules in
     let more : s.byte-index < length bytes = omega arith in (
-      room-more byte start numbers parted bytes s.byte-index s.game x.result x.ensures n.result n.ensures p.ensures size s.invariant.0,
+      room-more byte start numbers parted bytes s.byte-index s.game y x.ensures n.result n.ensures p.ensures size s.invariant.0,
       p.ensures.size ∙ s.invariant.1,
-      played-more byte start numbers parted bytes s.byte-index s.game x.result x.ensures more {R = game_after byte start parted c.args.start bytes} s.invariant.2,
-      λ k l q. s.invariant.3 k l (told_more byte start numbers parted bytes s.byte-index s.game x.result x.ensures n.result n.ensures p.ensures more q),
+      played-more byte start numbers parted bytes s.byte-index s.game y x.ensures more {R = game_after byte start parted c.args.start bytes} s.invariant.2,
+      λ k l q. s.invariant.3 k l (told_more byte start numbers parted bytes s.byte-index s.game y x.ensures n.result n.ensures p.ensures more q),
     )
 
 pub returns : goal.returns
