@@ -67,11 +67,7 @@ fn both_of(x: u8, y: u8) -> u32
 pub fn stands_at(e: Mover, x: usize, y: usize) -> bool
     ensures { result ≡ stands_at x y e }
 {
-    // Two tests and not one by `||`: so a loop over a list makes them once, before it.
-    if 255 < x {
-        return false;
-    }
-    if 255 < y {
+    if 255 < x || 255 < y {
         return false;
     }
     both_of(e.x, e.y) == both_of(x as u8, y as u8)
